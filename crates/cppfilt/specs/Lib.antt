@@ -1,0 +1,5 @@
+pub mod Causes
+pub mod Moves
+pub mod Owed
+pub mod Shown
+pub mod StatusText

@@ -1,0 +1,138 @@
+-- Laws on the lines of an input: what is due once a line feed is seen, at the end, and behind a line that is too long.
+use Rattle.std.proofs.Common.{eq-eqb, min, get_or, ◌≡◌, ℕ, suc, ◌+◌, ◌-◌, ◌<◌, ◌≤◌, Bool, true, false, cond, eqb, not, List, [], ◌∷◌, ◌++◌, length, take, drop, refl, sym, ap, ◌∙◌, append_assoc, append-nil, arith, rules, length-append, length-take-le, take-append-drop, nat_le, tests}
+use Rattle.std.proofs.lemmas.Grind.{common_steps}
+use Rattle.std.proofs.lemmas.List.Folds.{prefix_len-append}
+use Rattle.std.proofs.Math.Seq.{take-append-add, drop-append-add, take-length}
+use Rattle.std.specs.Prelude.{unwrap_or}
+use Rattle.demangle_grammar.specs.CallText.{call_text}
+use Rattle.demangle_grammar.specs.Lines.{before_feed, lines, onto_first, shown, shown_line, due, body, ending, without_last, line_limit}
+
+lines-at : (b : ℕ) (bs : List ℕ) → lines (b ∷ bs) ≡ cond (eqb b 10) ((b ∷ []) ∷ lines bs) (onto_first b (lines bs))
+unfolding lines
+lines-at b bs = refl
+
+lines-nil : lines [] ≡ []
+unfolding lines
+lines-nil = refl
+
+abbrev First : List ℕ → Type 0
+First x = before_feed x < length x → lines x ≡ take (before_feed x + 1) x ∷ lines (drop (before_feed x + 1) x)
+
+take-one-more : (n b : ℕ) (bs : List ℕ) → take (1 + n + 1) (b ∷ bs) ≡ b ∷ take (n + 1) bs
+take-one-more n b bs = let e : 1 + n + 1 ≡ suc (n + 1) = omega arith in rw e refl
+
+drop-one-more : (n b : ℕ) (bs : List ℕ) → drop (1 + n + 1) (b ∷ bs) ≡ drop (n + 1) bs
+drop-one-more n b bs = let e : 1 + n + 1 ≡ suc (n + 1) = omega arith in rw e refl
+
+first-step : (b : ℕ) (bs : List ℕ) (t : Bool) → eqb b 10 ≡ t → First bs → First (b ∷ bs)
+first-step b bs true e ih h = rw (lines-at b bs, e) refl
+first-step b bs false e ih h =
+    let small : before_feed bs < length bs = (let h' = rw e at h in omega arith) in
+    rw (lines-at b bs, e, take-one-more, drop-one-more, ih small) refl
+
+-- the first line, through its line feed, and the lines behind it
+pub lines-first : (x : List ℕ) → First x
+lines-first [] h = absurd (omega arith)
+lines-first (b ∷ bs) h = first-step b bs (eqb b 10) refl (lines-first bs) h
+
+-- the same of what is due
+pub due-first : (x : List ℕ) → before_feed x < length x → due x ≡ shown_line (take (before_feed x + 1) x) ++ due (drop (before_feed x + 1) x)
+unfolding due
+due-first x h = rw (lines-first x h) refl
+
+pub due-nil : due [] ≡ []
+unfolding due lines
+due-nil = refl
+
+-- bytes without a line feed are one line
+Last : List ℕ → Type 0
+Last x = before_feed x ≡ length x → 0 < length x → lines x ≡ x ∷ []
+
+last-step : (b : ℕ) (bs : List ℕ) (t : Bool) → eqb b 10 ≡ t → Last bs → Last (b ∷ bs)
+unfolding Last
+last-step b bs true e ih free some = absurd (let f = rw e at free in omega arith)
+last-step b [] false e ih free some = rw (lines-at b [], e, lines-nil) refl
+last-step b (c ∷ cs) false e ih free some =
+    let free' : before_feed (c ∷ cs) ≡ length (c ∷ cs) = (let f = rw e at free in omega arith) in
+    rw (lines-at b (c ∷ cs), e, ih free' (omega arith)) refl
+
+lines-last : (x : List ℕ) → Last x
+unfolding Last
+lines-last [] free some = absurd (omega arith)
+lines-last (b ∷ bs) free some = last-step b bs (eqb b 10) refl (lines-last bs) free some
+
+pub due-last : (x : List ℕ) → before_feed x ≡ length x → 0 < length x → due x ≡ shown_line x
+unfolding due Last
+due-last x free some = rw (lines-last x free some, append-nil) refl
+
+-- the first line feed behind bytes without one
+before_feed-append : (held x : List ℕ) → before_feed held ≡ length held → before_feed (held ++ x) ≡ length held + before_feed x
+before_feed-append held x free = let e = prefix_len-append (λ b. not (eqb b 10)) held x in rw (e, free, eq-eqb (length held) (length held) refl) refl
+
+-- what is due for bytes held without a line feed, once the next one is seen
+pub due-held : (held x : List ℕ) → before_feed held ≡ length held → before_feed x < length x
+    → due (held ++ x) ≡ shown_line (held ++ take (before_feed x + 1) x) ++ due (drop (before_feed x + 1) x)
+due-held held x free seen =
+    let at = before_feed-append held x free in
+    let n = before_feed x in
+    let within : before_feed (held ++ x) < length (held ++ x) = rw (at, length-append) (omega arith) in
+    let next : length held + n + 1 ≡ length held + (n + 1) = omega arith in
+    rw (due-first (held ++ x) within, at, next, take-append-add, drop-append-add) refl
+
+-- ---- lines that are too long to be asked
+-- a list is the front of another
+IsFront : List ℕ → List ℕ → Type 0
+IsFront a l = take (length a) l ≡ a
+
+take-take : (m n : ℕ) (l : List ℕ) → m ≤ n → take m (take n l) ≡ take m l
+take-take m n l h = grind (arith, common_steps)
+
+front-take : (n : ℕ) (l : List ℕ) → n ≤ length l → IsFront (take n l) l
+unfolding IsFront
+front-take n l h = rw (length-take-le n l h) refl
+
+front-trans : (a b c : List ℕ) → length a ≤ length b → IsFront a b → IsFront b c → IsFront a c
+unfolding IsFront
+front-trans a b c le p q = sym (take-take (length a) (length b) c le) ∙ ap (take (length a)) q ∙ p
+
+front-joins : (a l : List ℕ) → IsFront a l → a ++ drop (length a) l ≡ l
+unfolding IsFront
+front-joins a l p = ap (λ z. z ++ drop (length a) l) (sym p) ∙ take-append-drop (length a) l
+
+front-without' : (t : Bool) (l : List ℕ) → IsFront (cond t (take (length l - 1) l) l) l
+unfolding IsFront
+front-without' true l = front-take (length l - 1) l (omega arith)
+front-without' false l = take-length l
+
+length-without' : (t : Bool) (l : List ℕ) → (length (cond t (take (length l - 1) l) l) ≤ length l) × (length l ≤ length (cond t (take (length l - 1) l) l) + 1)
+length-without' true l = rw (length-take-le (length l - 1) l (omega arith)) (omega arith, omega arith)
+length-without' false l = (omega arith, omega arith)
+
+without-length : (b : ℕ) (l : List ℕ) → (length (without_last b l) ≤ length l) × (length l ≤ length (without_last b l) + 1)
+without-length b l = length-without' (eqb (get_or l (length l - 1) 0) b) l
+
+without-front : (b : ℕ) (l : List ℕ) → IsFront (without_last b l) l
+without-front b l = front-without' (eqb (get_or l (length l - 1) 0) b) l
+
+body-length : (l : List ℕ) → (length (body l) ≤ length l) × (length l ≤ length (body l) + 2)
+body-length l = let p = without-length 10 l in let q = without-length 13 (without_last 10 l) in (omega arith, omega arith)
+
+-- a line is its bytes and its ending
+pub body-ending : (l : List ℕ) → body l ++ ending l ≡ l
+body-ending l = front-joins (body l) l (front-trans (body l) (without_last 10 l) l (without-length 13 (without_last 10 l)).0 (without-front 13 (without_last 10 l)) (without-front 10 l))
+
+pub shown-long : (b : List ℕ) → line_limit < length b → shown b ≡ b
+unfolding shown
+shown-long b h = let e : nat_le (length b) line_limit ≡ false = search (rules, tests) in rw e refl
+
+-- a line of more bytes than the limit and an ending stays as it is
+pub long-line : (l : List ℕ) → line_limit + 2 < length l → shown_line l ≡ l
+unfolding shown_line
+long-line l h =
+    let n = body-length l in
+    let long : line_limit < length (body l) = omega arith in
+    rw (shown-long (body l) long) (body-ending l)
+
+pub shown-short : (b : List ℕ) → length b ≤ line_limit → shown b ≡ unwrap_or (call_text b) b
+unfolding shown
+shown-short b h = let e : nat_le (length b) line_limit ≡ true = search (rules, tests) in rw e refl
