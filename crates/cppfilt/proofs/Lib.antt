@@ -1,2 +1,4 @@
+pub mod FilterLaws
 pub mod MoveLaws
+pub mod OwedLaws
 pub mod ShownLaws

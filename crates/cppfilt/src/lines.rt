@@ -5,7 +5,7 @@ ghost use Rattle.std.specs.Option.{option_map};
 ghost use Rattle.demangle_grammar.specs.Lines.{before_feed, body, shown, shown_line, due, ending};
 ghost use Rattle.cppfilt.specs.Causes.{SinkCause};
 ghost use Rattle.cppfilt.specs.Moves.{Moves, Begins};
-ghost use Rattle.cppfilt.specs.Owed.{owed};
+ghost use Rattle.cppfilt.specs.Owed.{owed, ahead, completed};
 ghost use Rattle.cppfilt.specs.Shown.{text_or};
 
 use std::alloc::{AllocError, Global};
@@ -14,7 +14,7 @@ use cpp_demangle::error::SinkFault;
 use cpp_demangle::{DemangleOptions, ParseOptions, SymbolFault, demangle_symbol};
 
 use crate::ends::Sink;
-use crate::output::{emit, flush};
+use crate::output::{GATHERED, emit, flush};
 
 /// A line with more bytes than this before its ending is never asked for its text.
 const LINE_LIMIT: usize = 1_048_576;
@@ -54,12 +54,15 @@ fn body_len(line: &[u8]) -> usize
     }
 }
 
-/// Where the first line feed stands.
-fn line_feed(bytes: &[u8]) -> Option<usize>
+/// How many bytes there are through the first line feed; `None` where there is no line feed.
+fn through_line_feed(bytes: &[u8]) -> Option<usize>
     ensures { MatchOption result (before_feed bytes.now ≡ length bytes.now)
-        (λ at. (before_feed bytes.now ≡ at) × (at < length bytes.now)) }
+        (λ end. (before_feed bytes.now + 1 ≡ end) × (end ≤ length bytes.now)) }
 {
-    bytes.iter().position(|byte| *byte == LINE_FEED)
+    match bytes.iter().position(|byte| *byte == LINE_FEED) {
+        Some(at) => Some(at + 1),
+        None => None,
+    }
 }
 
 /// Gives on what is due for a whole line, its ending included.
@@ -97,4 +100,171 @@ fn emit_both<W: Sink>(
     emit(output, pending, first)?;
     emit(output, pending, second)?;
     Ok(())
+}
+
+/// Gives on the line that ends with these bytes: behind a front that was passed on, or behind the bytes that are held.
+fn emit_completed<W: Sink>(
+    alloc: Global,
+    output: &mut W,
+    pending: &mut Vec<u8>,
+    passing: bool,
+    held: &mut Vec<u8>,
+    line: &[u8],
+) -> Result<(), SinkFault>
+    ensures all { OnOk result (Moves (W.written output.old) (W.written output.new)
+        (pending.old.items ++ completed passing held.old.items line.now) pending.new.items) }
+    ensures front { Begins (W.written output.old) (W.written output.new)
+        (pending.old.items ++ completed passing held.old.items line.now) }
+    ensures cause { SinkCause (W.faults output.old) (W.faults output.new) result }
+{
+    if passing {
+        emit(output, pending, line)?;
+        return Ok(());
+    }
+    if held.is_empty() {
+        emit_line(alloc, output, pending, line)?;
+        return Ok(());
+    }
+    if line.len() > HELD_LIMIT.saturating_sub(held.len()) {
+        emit_both(output, pending, held.as_slice(), line)?;
+        return Ok(());
+    }
+    held.extend_from_slice(line)?;
+    emit_line(alloc, output, pending, held.as_slice())?;
+    Ok(())
+}
+
+/// What is kept of the input from one block to the next.
+#[derive(Drop)]
+pub(crate) struct LineFilter {
+    alloc: Global,
+    /// The front of a line that isn't complete, while it may be asked. It has no line feed.
+    held: Vec<u8>,
+    /// Whether a line that isn't complete is too long to be asked, so that its front was passed on.
+    passing: bool,
+    /// What is due and not yet written.
+    pending: Vec<u8>,
+}
+
+impl LineFilter {
+    /// A filter at the beginning of a line, with room for what it may keep.
+    pub(crate) fn new(alloc: Global) -> Result<LineFilter, AllocError>
+        ensures { IfOk result (λ filter. (filter.held.items ≡ []) × (filter.passing ≡ false) × (filter.pending.items ≡ [])) }
+    {
+        Ok(LineFilter {
+            alloc,
+            held: Vec::with_capacity(alloc, HELD_LIMIT)?,
+            passing: false,
+            pending: Vec::with_capacity(alloc, GATHERED)?,
+        })
+    }
+
+    /// Gives on the line that ends with these bytes.
+    fn complete<W: Sink>(&mut self, output: &mut W, line: &[u8]) -> Result<(), SinkFault>
+        requires free { before_feed self.old.held.items ≡ length self.old.held.items }
+        requires ended { before_feed line.now + 1 ≡ length line.now }
+        ensures all { OnOk result ((more : List ℕ) → Moves (W.written output.old) (W.written output.new)
+            (ahead self.old.pending.items self.old.passing self.old.held.items (line.now ++ more))
+            (ahead self.new.pending.items self.new.passing self.new.held.items more)) }
+        ensures front { (more : List ℕ) → Begins (W.written output.old) (W.written output.new)
+            (ahead self.old.pending.items self.old.passing self.old.held.items (line.now ++ more)) }
+        ensures cause { SinkCause (W.faults output.old) (W.faults output.new) result }
+        ensures free { OnOk result (before_feed self.new.held.items ≡ length self.new.held.items) }
+    {
+        emit_completed(
+            self.alloc,
+            output,
+            &mut self.pending,
+            self.passing,
+            &mut self.held,
+            line,
+        )?;
+        self.held.clear();
+        self.passing = false;
+        Ok(())
+    }
+
+    /// Keeps the front of a line, or passes it on where the line is too long to be asked.
+    fn hold<W: Sink>(&mut self, output: &mut W, front: &[u8]) -> Result<(), SinkFault>
+        requires free { before_feed self.old.held.items ≡ length self.old.held.items }
+        requires unended { before_feed front.now ≡ length front.now }
+        ensures all { OnOk result ((more : List ℕ) → Moves (W.written output.old) (W.written output.new)
+            (ahead self.old.pending.items self.old.passing self.old.held.items (front.now ++ more))
+            (ahead self.new.pending.items self.new.passing self.new.held.items more)) }
+        ensures front { (more : List ℕ) → Begins (W.written output.old) (W.written output.new)
+            (ahead self.old.pending.items self.old.passing self.old.held.items (front.now ++ more)) }
+        ensures cause { SinkCause (W.faults output.old) (W.faults output.new) result }
+        ensures free { OnOk result (before_feed self.new.held.items ≡ length self.new.held.items) }
+    {
+        if self.passing {
+            emit(output, &mut self.pending, front)?;
+            return Ok(());
+        }
+        if front.len() > HELD_LIMIT.saturating_sub(self.held.len()) {
+            emit_both(output, &mut self.pending, self.held.as_slice(), front)?;
+            self.held.clear();
+            self.passing = true;
+            return Ok(());
+        }
+        self.held.extend_from_slice(front)?;
+        Ok(())
+    }
+
+    /// Gives on what is due for a block of input, and writes it.
+    pub(crate) fn take_block<W: Sink>(
+        &mut self,
+        output: &mut W,
+        block: &[u8],
+    ) -> Result<(), SinkFault>
+        requires free { before_feed self.old.held.items ≡ length self.old.held.items }
+        ensures all { OnOk result ((more : List ℕ) → Moves (W.written output.old) (W.written output.new)
+            (ahead self.old.pending.items self.old.passing self.old.held.items (block.now ++ more))
+            (ahead self.new.pending.items self.new.passing self.new.held.items more)) }
+        ensures front { (more : List ℕ) → Begins (W.written output.old) (W.written output.new)
+            (ahead self.old.pending.items self.old.passing self.old.held.items (block.now ++ more)) }
+        ensures cause { SinkCause (W.faults output.old) (W.faults output.new) result }
+        ensures free { OnOk result (before_feed self.new.held.items ≡ length self.new.held.items) }
+        ensures written { OnOk result (self.new.pending.items ≡ []) }
+    {
+        self.take_lines(output, block)?;
+        flush(output, &mut self.pending)?;
+        Ok(())
+    }
+
+    /// Gives on what is due for a block of input: line by line, and then the front of a line.
+    fn take_lines<W: Sink>(&mut self, output: &mut W, block: &[u8]) -> Result<(), SinkFault>
+        requires free { before_feed self.old.held.items ≡ length self.old.held.items }
+        ensures all { OnOk result ((more : List ℕ) → Moves (W.written output.old) (W.written output.new)
+            (ahead self.old.pending.items self.old.passing self.old.held.items (block.now ++ more))
+            (ahead self.new.pending.items self.new.passing self.new.held.items more)) }
+        ensures front { (more : List ℕ) → Begins (W.written output.old) (W.written output.new)
+            (ahead self.old.pending.items self.old.passing self.old.held.items (block.now ++ more)) }
+        ensures cause { SinkCause (W.faults output.old) (W.faults output.new) result }
+        ensures free { OnOk result (before_feed self.new.held.items ≡ length self.new.held.items) }
+    {
+        let mut rest = block;
+        while let Some(end) = through_line_feed(rest) {
+            let (line, after) = rest.split_at(end);
+            self.complete(output, line)?;
+            rest = after;
+        }
+        self.hold(output, rest)?;
+        Ok(())
+    }
+
+    /// Writes what is due for a last line without a line feed.
+    pub(crate) fn finish<W: Sink>(&mut self, output: &mut W) -> Result<(), SinkFault>
+        requires free { before_feed self.old.held.items ≡ length self.old.held.items }
+        ensures all { OnOk result (Moves (W.written output.old) (W.written output.new)
+            (ahead self.old.pending.items self.old.passing self.old.held.items []) []) }
+        ensures front { Begins (W.written output.old) (W.written output.new)
+            (ahead self.old.pending.items self.old.passing self.old.held.items []) }
+        ensures cause { SinkCause (W.faults output.old) (W.faults output.new) result }
+    {
+        if !self.passing && !self.held.is_empty() {
+            emit_line(self.alloc, output, &mut self.pending, self.held.as_slice())?;
+        }
+        flush(output, &mut self.pending)?;
+        Ok(())
+    }
 }

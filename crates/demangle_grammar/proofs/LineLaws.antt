@@ -35,6 +35,26 @@ pub lines-first : (x : List ℕ) → First x
 lines-first [] h = absurd (omega arith)
 lines-first (b ∷ bs) h = first-step b bs (eqb b 10) refl (lines-first bs) h
 
+-- the bytes through the first line feed have it as their last
+Ended : List ℕ → Type 0
+Ended x = before_feed x < length x → before_feed (take (before_feed x + 1) x) ≡ before_feed x
+
+ended-step : (b : ℕ) (bs : List ℕ) (t : Bool) → eqb b 10 ≡ t → Ended bs → Ended (b ∷ bs)
+unfolding Ended
+ended-step b bs true e ih h = rw (e, e) refl
+ended-step b bs false e ih h =
+    let small : before_feed bs < length bs = (let h' = rw e at h in omega arith) in
+    rw (e, take-one-more, e, ih small) refl
+
+ended-at : (x : List ℕ) → Ended x
+unfolding Ended
+ended-at [] h = absurd (omega arith)
+ended-at (b ∷ bs) h = ended-step b bs (eqb b 10) refl (ended-at bs) h
+
+pub first-ended : (x : List ℕ) → before_feed x < length x → before_feed (take (before_feed x + 1) x) + 1 ≡ length (take (before_feed x + 1) x)
+unfolding Ended
+first-ended x h = rw (ended-at x h, length-take-le (before_feed x + 1) x (omega arith)) refl
+
 -- the same of what is due
 pub due-first : (x : List ℕ) → before_feed x < length x → due x ≡ shown_line (take (before_feed x + 1) x) ++ due (drop (before_feed x + 1) x)
 unfolding due
@@ -66,7 +86,7 @@ unfolding due Last
 due-last x free some = rw (lines-last x free some, append-nil) refl
 
 -- the first line feed behind bytes without one
-before_feed-append : (held x : List ℕ) → before_feed held ≡ length held → before_feed (held ++ x) ≡ length held + before_feed x
+pub before_feed-append : (held x : List ℕ) → before_feed held ≡ length held → before_feed (held ++ x) ≡ length held + before_feed x
 before_feed-append held x free = let e = prefix_len-append (λ b. not (eqb b 10)) held x in rw (e, free, eq-eqb (length held) (length held) refl) refl
 
 -- what is due for bytes held without a line feed, once the next one is seen

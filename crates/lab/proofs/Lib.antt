@@ -1,0 +1,3 @@
+pub mod OwedLaws
+pub mod MoveLaws
+pub mod FilterLaws

@@ -1,0 +1,2 @@
+//! Lab.
+#![tactic(auto)]
