@@ -1,5 +1,7 @@
 pub mod Causes
 pub mod Moves
+pub mod Outcome
 pub mod Owed
 pub mod Shown
+pub mod Statuses
 pub mod StatusText

@@ -134,6 +134,31 @@ fn emit_completed<W: Sink>(
     Ok(())
 }
 
+/// Gives on what is due for a last line without a line feed.
+fn emit_last<W: Sink>(
+    alloc: Global,
+    output: &mut W,
+    pending: &mut Vec<u8>,
+    passing: bool,
+    held: &[u8],
+) -> Result<(), SinkFault>
+    requires free { before_feed held.now ≡ length held.now }
+    ensures all { OnOk result (Moves (W.written output.old) (W.written output.new)
+        (pending.old.items ++ owed passing held.now []) pending.new.items) }
+    ensures front { Begins (W.written output.old) (W.written output.new)
+        (pending.old.items ++ owed passing held.now []) }
+    ensures cause { SinkCause (W.faults output.old) (W.faults output.new) result }
+{
+    if passing {
+        return Ok(());
+    }
+    if held.len() == 0 {
+        return Ok(());
+    }
+    emit_line(alloc, output, pending, held)?;
+    Ok(())
+}
+
 /// What is kept of the input from one block to the next.
 #[derive(Drop)]
 pub(crate) struct LineFilter {
@@ -261,9 +286,13 @@ impl LineFilter {
             (ahead self.old.pending.items self.old.passing self.old.held.items []) }
         ensures cause { SinkCause (W.faults output.old) (W.faults output.new) result }
     {
-        if !self.passing && !self.held.is_empty() {
-            emit_line(self.alloc, output, &mut self.pending, self.held.as_slice())?;
-        }
+        emit_last(
+            self.alloc,
+            output,
+            &mut self.pending,
+            self.passing,
+            self.held.as_slice(),
+        )?;
         flush(output, &mut self.pending)?;
         Ok(())
     }

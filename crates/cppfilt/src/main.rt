@@ -2,6 +2,7 @@
 #![tactic(auto)]
 
 mod ends;
+mod filter;
 mod lines;
 mod memory;
 mod output;

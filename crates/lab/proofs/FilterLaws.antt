@@ -1,13 +1,13 @@
 -- Laws on what a sink was given of what is owed, whatever comes behind.
-use Rattle.std.proofs.Common.{take, drop, take-append-drop, ◌≤◌, arith, ◌<◌, true, false, length-append, ◌≡◌, ℕ, ◌+◌, Bool, List, ◌++◌, length, refl, sym, ap, ◌∙◌, append_assoc}
+use Rattle.std.proofs.Common.{[], ◌∷◌, ◌⊎◌, inl, inr, append-nil, take, drop, take-append-drop, ◌≤◌, arith, ◌<◌, true, false, length-append, ◌≡◌, ℕ, ◌+◌, Bool, List, ◌++◌, length, refl, sym, ap, ◌∙◌, append_assoc}
 use Rattle.std.specs.Prelude.{Option}
-use Rattle.demangle_grammar.specs.Lines.{before_feed, due, line_limit}
+use Rattle.demangle_grammar.specs.Lines.{before_feed, due, shown_line, line_limit}
 use Rattle.lab.specs.Moves.{Moves, Begins}
 use Rattle.lab.specs.Owed.{passed, owed, completed, ahead}
-use Rattle.lab.proofs.MoveLaws.{moves-more, begins-more, begins-then, moves-then}
-use Rattle.lab.proofs.OwedLaws.{owed-completed, owed-long, passed-front}
+use Rattle.lab.proofs.MoveLaws.{moves-none, moves-more, begins-more, begins-then, moves-then, flushed}
+use Rattle.lab.proofs.OwedLaws.{owed-completed, owed-long, passed-front, passed-nil}
 use Rattle.std.proofs.lemmas.Bool.{true≢false, false≢true}
-use Rattle.demangle_grammar.proofs.LineLaws.{before_feed-append, first-ended}
+use Rattle.demangle_grammar.proofs.LineLaws.{before_feed-append, first-ended, due-nil, due-last}
 
 -- a line is complete
 ahead-completed : (gathered : List ℕ) (passing : Bool) (held line more : List ℕ) → before_feed held ≡ length held → before_feed line + 1 ≡ length line
@@ -98,3 +98,32 @@ moves-rest a b c first mid last p q more = moves-then a b c (first more) (mid mo
 pub begins-rest : (a b c : Option (List ℕ)) (first mid : List ℕ → List ℕ) → ((more : List ℕ) → Moves a b (first more) (mid more)) → ((more : List ℕ) → Begins b c (mid more))
     → (more : List ℕ) → Begins a c (first more)
 begins-rest a b c first mid p q more = begins-then a b c (first more) (mid more) (p more) (q more)
+
+-- ---- what was gathered is written
+pub moves-flushed : (a b c : Option (List ℕ)) (first : List ℕ → List ℕ) (gathered after : List ℕ) (passing : Bool) (held : List ℕ) → ((more : List ℕ) → Moves a b (first more) (ahead gathered passing held more))
+    → Moves b c gathered [] → after ≡ [] → (more : List ℕ) → Moves a c (first more) (ahead after passing held more)
+moves-flushed a b c first gathered after passing held p q none more =
+    rw none (moves-then a b c (first more) (ahead gathered passing held more) (owed passing held more) (p more) (flushed b c gathered (owed passing held more) q))
+
+pub begins-flushed : (a b c : Option (List ℕ)) (first : List ℕ → List ℕ) (gathered : List ℕ) (passing : Bool) (held : List ℕ) → ((more : List ℕ) → Moves a b (first more) (ahead gathered passing held more))
+    → Begins b c gathered → (more : List ℕ) → Begins a c (first more)
+begins-flushed a b c first gathered passing held p q more =
+    begins-then a b c (first more) (ahead gathered passing held more) (p more) (begins-more b c gathered (owed passing held more) q)
+
+-- ---- the end of the input
+owed-nothing : (passing : Bool) (held : List ℕ) → (passing ≡ true) ⊎ (held ≡ []) → owed passing held [] ≡ []
+owed-nothing true held why = passed-nil
+owed-nothing false held (inl on) = absurd (false≢true on)
+owed-nothing false held (inr none) = ap (λ h. due (h ++ [])) none ∙ due-nil
+
+pub moves-nothing : (a : Option (List ℕ)) (gathered : List ℕ) (passing : Bool) (held : List ℕ) → (passing ≡ true) ⊎ (held ≡ []) → Moves a a (gathered ++ owed passing held []) gathered
+moves-nothing a gathered passing held why = rw (owed-nothing passing held why, append-nil) (moves-none a gathered)
+
+-- a last line without a line feed
+pub owed-last : (passing : Bool) (held : List ℕ) → passing ≡ false → before_feed held ≡ length held → 0 < length held → owed passing held [] ≡ shown_line held
+owed-last true held off free some = absurd (true≢false off)
+owed-last false held off free some = ap due (append-nil held) ∙ due-last held free some
+
+pub nil-from_length : (l : List ℕ) → length l ≡ 0 → l ≡ []
+nil-from_length [] e = refl
+nil-from_length (b ∷ bs) e = absurd (omega arith)

@@ -1,3 +1,5 @@
 pub mod OwedLaws
 pub mod MoveLaws
 pub mod FilterLaws
+pub mod ReadLaws
+pub mod RunLaws

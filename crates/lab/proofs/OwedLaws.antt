@@ -12,7 +12,7 @@ passed-at : (b : ℕ) (bs : List ℕ) → passed (b ∷ bs) ≡ b ∷ cond (eqb 
 unfolding passed
 passed-at b bs = refl
 
-passed-nil : passed [] ≡ []
+pub passed-nil : passed [] ≡ []
 unfolding passed
 passed-nil = refl
 

@@ -1,2 +1,4 @@
 //! Lab.
 #![tactic(auto)]
+pub mod status;
+pub mod ends;

@@ -1,0 +1,38 @@
+use Rattle.std.proofs.Common.{◌≡◌, ◌+◌, ◌<◌, ◌≤◌, length, take, refl, rules, arith, sym}
+use Rattle.std.proofs.lemmas.List.{length-take-le}
+use Rattle.cppfilt.specs.Owed.{ahead}
+use Rattle.cppfilt.proofs.RunLaws.{going-more, stop-empty, stop-write}
+use Rattle.cppfilt.proofs.filter.filter_blocks.Goals as goal
+
+-- the end of the input
+pub returns-in-Ok-eq0 : goal.returns-in-Ok-eq0
+returns-in-Ok-eq0 g c =
+    let none : c.in-Ok-eq0.field-0 ≡ 0 = search rules in
+    let room : 0 < length c.read_front.new.block = (let k = c.in-Ok-eq0.ensures.kept in let h = c.loop-taken.invariant.2 in omega arith) in
+    stop-empty c.end_input.result c.in-Ok-eq0.field-0 _ _ _ _ _ c.read_front.new.block c.loop-taken.invariant.0 none room c.in-Ok-eq0.ensures.cause c.in-Ok-eq0.ensures.count c.in-Ok-eq0.ensures.bytes c.end_input.ensures
+
+pub returns-in-Ok-eq0-read_front : goal.returns-in-Ok-eq0-read_front
+returns-in-Ok-eq0-read_front g c =
+    let none : c.in-Ok-eq0-read_front.field-0 ≡ 0 = search rules in
+    let room : 0 < length c.read_front-2.new.block = (let k = c.in-Ok-eq0-read_front.ensures.kept in let h = c.loop-taken.invariant.2 in omega arith) in
+    stop-empty c.end_input-in-Ok-eq0-read_front.result c.in-Ok-eq0-read_front.field-0 _ _ _ _ _ c.read_front-2.new.block c.loop-taken.invariant.0 none room c.in-Ok-eq0-read_front.ensures.cause
+    c.in-Ok-eq0-read_front.ensures.count c.in-Ok-eq0-read_front.ensures.bytes c.end_input-in-Ok-eq0-read_front.ensures
+
+-- the sink refused a part of what is due for a block
+pub returns-in-Err-take_block : goal.returns-in-Err-take_block
+returns-in-Err-take_block g c =
+    let within : c.loop-taken.taken + c.in-Ok.count ≤ c.args.limit = search rules in
+    rw c.status_of.ensures
+    (stop-write c.in-Err-take_block.fault c.in-Ok.count _ _ _ _ _ (take c.in-Ok.count c.read_front.new.block) c.loop-taken.invariant.0 c.in-Ok.ensures.cause c.in-Ok.ensures.count within c.in-Ok.ensures.bytes.0
+    c.in-Err-take_block.ensures.cause c.in-Err-take_block.ensures.front)
+
+-- one more block
+pub loop-taken-preserved : goal.loop-taken-preserved
+loop-taken-preserved g c =
+    let then = c.take_block.new.self in
+    let within : c.loop-taken.taken + c.in-Ok.count ≤ c.args.limit = search rules in
+    let small : c.in-Ok.count ≤ length c.read_front.new.block = search rules in
+    (going-more c.in-Ok.count _ _ _ _ _ (λ more. ahead then.pending.items then.passing then.held.items more) (take c.in-Ok.count c.read_front.new.block) c.loop-taken.invariant.0 c.in-Ok.ensures.cause
+    c.in_default.ensures.cause c.in-Ok.ensures.count (length-take-le c.in-Ok.count c.read_front.new.block small) c.in-Ok.ensures.bytes.0 c.in_default.ensures.all within,
+    c.in_default.ensures.free,
+    search rules)

@@ -1,0 +1,3 @@
+/// F.
+#[derive(Clone, Copy)]
+pub struct Failed;
