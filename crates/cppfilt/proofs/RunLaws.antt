@@ -1,5 +1,5 @@
 -- Laws on a run over an input: how it goes on, and how it stops.
-use Rattle.std.proofs.Common.{◌≡◌, ◌⊎◌, inl, inr, ℕ, ◌+◌, ◌-◌, ◌^◌, ◌<◌, ◌≤◌, min, List, [], ◌∷◌, ◌++◌, length, take, refl, sym, ap, ◌∙◌, append_assoc, append-nil, arith, length-append, Result, Ok, Err}
+use Rattle.std.proofs.Common.{Bool, false, subst, ◌≡◌, ◌⊎◌, inl, inr, ℕ, ◌+◌, ◌-◌, ◌^◌, ◌<◌, ◌≤◌, min, List, [], ◌∷◌, ◌++◌, length, take, refl, sym, ap, ◌∙◌, append_assoc, append-nil, arith, length-append, Result, Ok, Err}
 use Rattle.std.specs.Prelude.{Option, Some, None, IfSome}
 use Rattle.std.specs.Io.KnownBytes.{Consumes, Keeps, IsAtEnd}
 use Rattle.std.proofs.lemmas.Bool.{cases_lt}
@@ -12,7 +12,9 @@ use Rattle.cppfilt.specs.Outcome.{Progress, Ended, Cut, Going, Stopped, Finished
 use Rattle.cppfilt.specs.Statuses.{refusal_status}
 use Rattle.cppfilt.specs.declared.status.Status.{Status}
 use Rattle.cppfilt.specs.declared.status.Status.TheVariants.{Done, Usage, ReadFault, WriteFault, InputTooLong, OutOfMemory}
-use Rattle.cppfilt.proofs.MoveLaws.{moves-none, moves-then, begins, begins-then}
+use Rattle.cppfilt.proofs.MoveLaws.{moves-none, moves-then, begins, begins-then, begins-none}
+use Rattle.demangle_grammar.specs.Lines.{due}
+use Rattle.cppfilt.specs.Owed.{ahead}
 
 abbrev Bytes : Type 0
 Bytes = Option (List ℕ)
@@ -178,3 +180,24 @@ stop-empty {limit} {r0} {r} {w0} {w} {t0} {t} {left0} {left} {out0} {out} {befor
     let consumes : Consumes left left' [] = rw (← nothing) c.0 in
     let et' : t' ≡ min (t + 0) (2 ^ 64 - 1) = et ∙ ap (λ k. min (t + k) (2 ^ 64 - 1)) none in
     stop-end status r' w' t' left' out' g er et' consumes (c.1 none room) f
+
+-- ---- the clauses of a whole run, by how the input part stopped and what was reported then
+-- ---- the beginning of a run
+pub stop-memory : (limit r w t : ℕ) (left out : Bytes) (before : List ℕ → List ℕ) → Stopped OutOfMemory limit r r w w t t left left out out before
+stop-memory limit r w t left out before = (refl, refl, omega arith, record { long = none-long left; front = none-front left out before })
+  where
+  none-long : (left : Bytes) → IfSome left (λ input. 0 ≤ length input)
+  none-long None = tt
+  none-long (Some x) = omega arith
+  none-front : (left out : Bytes) (before : List ℕ → List ℕ) → IfSome left (λ input. Begins out out (before input))
+  none-front None out before = tt
+  none-front (Some x) out before = begins-none out (before x)
+
+-- a filter at the beginning of a line
+pub stop-from-start : (s : Status) (limit r0 r w0 w t0 t : ℕ) (left0 left out0 out : Bytes) (gathered : List ℕ) (passing : Bool) (held : List ℕ) → (held ≡ []) × (passing ≡ false) × (gathered ≡ [])
+    → Stopped s limit r0 r w0 w t0 t left0 left out0 out (ahead gathered passing held) → Stopped s limit r0 r w0 w t0 t left0 left out0 out due
+stop-from-start s limit r0 r w0 w t0 t left0 left out0 out gathered passing held e st =
+    let P : List ℕ → Bool → List ℕ → Type 0 = λ a b c. Stopped s limit r0 r w0 w t0 t left0 left out0 out (ahead a b c) in
+    let one : P [] passing held = subst (λ a. P a passing held) e.2 st in
+    let two : P [] false held = subst (λ b. P [] b held) e.1 one in
+    subst (λ c. P [] false c) e.0 two

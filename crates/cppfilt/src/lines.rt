@@ -1,6 +1,6 @@
 //! Lines: what a line becomes, and the cutting of blocks of input into lines.
 
-ghost use Rattle.std.specs.Prelude.{◌≡◌, ℕ, ◌+◌, ◌≤◌, List, [], ◌∷◌, ◌++◌, length, take, OnOk, IfOk, unwrap_or, vec_len, ◌<◌, MatchOption};
+ghost use Rattle.std.specs.Prelude.{◌≡◌, ℕ, ◌+◌, ◌≤◌, List, [], ◌∷◌, ◌++◌, length, take, OnOk, IfOk, unwrap_or, vec_len, ◌<◌, MatchOption, false};
 ghost use Rattle.std.specs.Option.{option_map};
 ghost use Rattle.demangle_grammar.specs.Lines.{before_feed, body, shown, shown_line, due, ending};
 ghost use Rattle.cppfilt.specs.Causes.{SinkCause};

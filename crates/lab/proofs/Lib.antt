@@ -3,3 +3,4 @@ pub mod MoveLaws
 pub mod FilterLaws
 pub mod ReadLaws
 pub mod RunLaws
+pub mod ReportLaws

@@ -1,5 +1,5 @@
 -- Laws on a run over an input: how it goes on, and how it stops.
-use Rattle.std.proofs.Common.{◌≡◌, ◌⊎◌, inl, inr, ℕ, ◌+◌, ◌-◌, ◌^◌, ◌<◌, ◌≤◌, min, List, [], ◌∷◌, ◌++◌, length, take, refl, sym, ap, ◌∙◌, append_assoc, append-nil, arith, length-append, Result, Ok, Err}
+use Rattle.std.proofs.Common.{Bool, false, subst, ◌≡◌, ◌⊎◌, inl, inr, ℕ, ◌+◌, ◌-◌, ◌^◌, ◌<◌, ◌≤◌, min, List, [], ◌∷◌, ◌++◌, length, take, refl, sym, ap, ◌∙◌, append_assoc, append-nil, arith, length-append, Result, Ok, Err}
 use Rattle.std.specs.Prelude.{Option, Some, None, IfSome}
 use Rattle.std.specs.Io.KnownBytes.{Consumes, Keeps, IsAtEnd}
 use Rattle.std.proofs.lemmas.Bool.{cases_lt}
@@ -9,10 +9,12 @@ use Rattle.cpp_demangle.specs.declared.error.SinkFault.TheVariants as fault
 use Rattle.lab.specs.Causes.{Rose, SinkCause}
 use Rattle.lab.specs.Moves.{Moves, Begins}
 use Rattle.lab.specs.Outcome.{Progress, Ended, Cut, Going, Stopped, Finished}
-use Rattle.lab.specs.Statuses.{sink_status}
+use Rattle.lab.specs.Statuses.{refusal_status}
 use Rattle.lab.specs.declared.status.Status.{Status}
 use Rattle.lab.specs.declared.status.Status.TheVariants.{Done, Usage, ReadFault, WriteFault, InputTooLong, OutOfMemory}
-use Rattle.lab.proofs.MoveLaws.{moves-none, moves-then, begins, begins-then}
+use Rattle.lab.proofs.MoveLaws.{moves-none, moves-then, begins, begins-then, begins-none}
+use Rattle.demangle_grammar.specs.Lines.{due}
+use Rattle.lab.specs.Owed.{ahead}
 
 abbrev Bytes : Type 0
 Bytes = Option (List ℕ)
@@ -143,7 +145,7 @@ taken-more n t' g et within = let h = g.at_most in omega arith
 
 pub stop-write : {limit r0 r w0 w t0 t : ℕ} {left0 left out0 out : Bytes} {before after : List ℕ → List ℕ} {count : ℕ} (e : SinkFault) (n r' w' t' : ℕ) (left' out' : Bytes) (bytes : List ℕ)
     → Going limit r0 r w0 w t0 t left0 left out0 out before after count → r' ≡ r → t' ≡ min (t + n) (2 ^ 64 - 1) → count + n ≤ limit → Consumes left left' bytes
-    → SinkCause {T = Unit {0}} w w' (Err e) → ((more : List ℕ) → Begins out out' (after (bytes ++ more))) → Stopped (sink_status (Err e)) limit r0 r' w0 w' t0 t' left0 left' out0 out' before
+    → SinkCause {T = Unit {0}} w w' (Err e) → ((more : List ℕ) → Begins out out' (after (bytes ++ more))) → Stopped (refusal_status e) limit r0 r' w0 w' t0 t' left0 left' out0 out' before
 stop-write fault.Failed n r' w' t' left' out' bytes g er et within c cause f =
     let e = g.writes in (er ∙ g.reads, (omega (arith, cause.0), rw (← e) cause.1), taken-more n t' g et within, cut-write left' out' bytes g.progress c f)
 stop-write fault.OutOfMemory n r' w' t' left' out' bytes g er et within c cause f = (er ∙ g.reads, cause ∙ g.writes, taken-more n t' g et within, cut-write left' out' bytes g.progress c f)
@@ -162,3 +164,40 @@ stop-long {limit} {r0} {r} {w0} {w} {t0} {t} {left0} {left} {out0} {out} {before
         long = cut-long left0 left' (p.bytes ++ bytes) (limit + 1) c' (rw length-append (omega arith));
         front = cut-front left0 left' out0 out before (p.bytes ++ bytes) c' (λ more. rw (append_assoc p.bytes bytes more) (begins out0 out (before (p.bytes ++ (bytes ++ more))) (after (bytes ++ more)) (p.moves (bytes ++ more))));
     })
+
+-- the end of the input, by what the sink answered
+pub finished-refused : (e : SinkFault) (w w' : ℕ) (out out' : Bytes) (whole : List ℕ) → SinkCause {T = Unit {0}} w w' (Err e) → Begins out out' whole → Finished (refusal_status e) w w' out out' whole
+finished-refused fault.Failed w w' out out' whole cause f = (cause, f)
+finished-refused fault.OutOfMemory w w' out out' whole cause f = (cause, f)
+
+-- a read gave nothing
+pub stop-empty : {limit r0 r w0 w t0 t : ℕ} {left0 left out0 out : Bytes} {before after : List ℕ → List ℕ} {count : ℕ} (status : Status) (n r' w' t' : ℕ) (left' out' : Bytes) (block : List ℕ)
+    → Going limit r0 r w0 w t0 t left0 left out0 out before after count → n ≡ 0 → 0 < length block → r' ≡ r → t' ≡ min (t + n) (2 ^ 64 - 1)
+    → Consumes left left' (take n block) × (n ≡ 0 → 0 < length block → IsAtEnd left') → Finished status w w' out out' (after [])
+    → Stopped status limit r0 r' w0 w' t0 t' left0 left' out0 out' before
+stop-empty {limit} {r0} {r} {w0} {w} {t0} {t} {left0} {left} {out0} {out} {before} {after} {count} status n r' w' t' left' out' block g none room er et c f =
+    let nothing : take n block ≡ [] = ap (λ k. take k block) none in
+    let consumes : Consumes left left' [] = rw (← nothing) c.0 in
+    let et' : t' ≡ min (t + 0) (2 ^ 64 - 1) = et ∙ ap (λ k. min (t + k) (2 ^ 64 - 1)) none in
+    stop-end status r' w' t' left' out' g er et' consumes (c.1 none room) f
+
+-- ---- the clauses of a whole run, by how the input part stopped and what was reported then
+-- ---- the beginning of a run
+pub stop-memory : (limit r w t : ℕ) (left out : Bytes) (before : List ℕ → List ℕ) → Stopped OutOfMemory limit r r w w t t left left out out before
+stop-memory limit r w t left out before = (refl, refl, omega arith, record { long = none-long left; front = none-front left out before })
+  where
+  none-long : (left : Bytes) → IfSome left (λ input. 0 ≤ length input)
+  none-long None = tt
+  none-long (Some x) = omega arith
+  none-front : (left out : Bytes) (before : List ℕ → List ℕ) → IfSome left (λ input. Begins out out (before input))
+  none-front None out before = tt
+  none-front (Some x) out before = begins-none out (before x)
+
+-- a filter at the beginning of a line
+pub stop-from-start : (s : Status) (limit r0 r w0 w t0 t : ℕ) (left0 left out0 out : Bytes) (gathered : List ℕ) (passing : Bool) (held : List ℕ) → (held ≡ []) × (passing ≡ false) × (gathered ≡ [])
+    → Stopped s limit r0 r w0 w t0 t left0 left out0 out (ahead gathered passing held) → Stopped s limit r0 r w0 w t0 t left0 left out0 out due
+stop-from-start s limit r0 r w0 w t0 t left0 left out0 out gathered passing held e st =
+    let P : List ℕ → Bool → List ℕ → Type 0 = λ a b c. Stopped s limit r0 r w0 w t0 t left0 left out0 out (ahead a b c) in
+    let one : P [] passing held = subst (λ a. P a passing held) e.2 st in
+    let two : P [] false held = subst (λ b. P [] b held) e.1 one in
+    subst (λ c. P [] false c) e.0 two
