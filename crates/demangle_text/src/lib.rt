@@ -6,6 +6,8 @@ mod error;
 mod index_str;
 mod number;
 mod options;
+#[cfg(test)]
+mod tests;
 mod word;
 
 pub use error::{Error, Result};

@@ -5,7 +5,7 @@ ghost use Rattle.std.specs.Prelude.{◌≡◌, ◌<◌};
 use std::marker::Model;
 
 /// The limit on levels where none was set.
-pub const DEFAULT_RECURSION_LIMIT: u32 = 96;
+const DEFAULT_RECURSION_LIMIT: u32 = 96;
 
 /// How a mangled name is read. In a contract it is its limit.
 #[derive(Clone, Copy, Debug)]

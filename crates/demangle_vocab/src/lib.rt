@@ -7,6 +7,8 @@ mod builtin;
 mod component;
 mod operator;
 mod qualifier;
+#[cfg(test)]
+mod tests;
 
 pub use apart::no_word_is_a_prefix;
 pub use builtin::StandardBuiltinType;
