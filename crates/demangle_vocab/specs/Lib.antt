@@ -3,3 +3,4 @@ pub mod Operators
 pub mod Builtins
 pub mod Components
 pub mod Qualifiers
+pub mod Order

@@ -10,7 +10,7 @@ mod qualifier;
 #[cfg(test)]
 mod tests;
 
-pub use apart::no_word_is_a_prefix;
+pub use apart::{no_word_is_a_prefix, the_word_at_the_front_is_read};
 pub use builtin::StandardBuiltinType;
 pub use component::WellKnownComponent;
 pub use operator::SimpleOperatorName;

@@ -2,7 +2,7 @@
 
 use crate::{
     ExplicitObjectParameter, RefQualifier, SimpleOperatorName, StandardBuiltinType,
-    WellKnownComponent, no_word_is_a_prefix,
+    WellKnownComponent, no_word_is_a_prefix, the_word_at_the_front_is_read,
 };
 use demangle_text::{Error, IndexStr, Result};
 use std::test::Fail;
@@ -205,6 +205,7 @@ fn qualifiers_are_those_of_the_abi(rt: HostRuntime) -> std::result::Result<(), F
     assert_eq!(rt; (explicit.text(), explicit.number()), ("this", 0));
     assert!(rt; ExplicitObjectParameter::starts_with(b'H'));
     no_word_is_a_prefix();
+    the_word_at_the_front_is_read();
     Ok(())
 }
 
