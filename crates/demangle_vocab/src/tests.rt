@@ -1,0 +1,237 @@
+//! Each word of each table against the ABI's own lists, in the order of these, and what no clause says.
+
+use crate::{
+    ExplicitObjectParameter, RefQualifier, SimpleOperatorName, StandardBuiltinType,
+    WellKnownComponent, no_word_is_a_prefix, the_word_at_the_front_is_read,
+};
+use demangle_text::{Error, IndexStr, Result};
+use std::test::Fail;
+
+/// The operators of the ABI, section 5.1.3.
+const OPERATORS: [(&str, &str, u8); 48] = [
+    ("nw", "new", 3),
+    ("na", "new[]", 3),
+    ("dl", "delete", 1),
+    ("da", "delete[]", 1),
+    ("ps", "+", 1),
+    ("ng", "-", 1),
+    ("ad", "&", 1),
+    ("de", "*", 1),
+    ("co", "~", 1),
+    ("pl", "+", 2),
+    ("mi", "-", 2),
+    ("ml", "*", 2),
+    ("dv", "/", 2),
+    ("rm", "%", 2),
+    ("an", "&", 2),
+    ("or", "|", 2),
+    ("eo", "^", 2),
+    ("aS", "=", 2),
+    ("pL", "+=", 2),
+    ("mI", "-=", 2),
+    ("mL", "*=", 2),
+    ("dV", "/=", 2),
+    ("rM", "%=", 2),
+    ("aN", "&=", 2),
+    ("oR", "|=", 2),
+    ("eO", "^=", 2),
+    ("ls", "<<", 2),
+    ("rs", ">>", 2),
+    ("lS", "<<=", 2),
+    ("rS", ">>=", 2),
+    ("eq", "==", 2),
+    ("ne", "!=", 2),
+    ("lt", "<", 2),
+    ("gt", ">", 2),
+    ("le", "<=", 2),
+    ("ge", ">=", 2),
+    ("ss", "<=>", 2),
+    ("nt", "!", 1),
+    ("aa", "&&", 2),
+    ("oo", "||", 2),
+    ("pp", "++", 1),
+    ("mm", "--", 1),
+    ("cm", ",", 2),
+    ("pm", "->*", 2),
+    ("pt", "->", 2),
+    ("cl", "()", 2),
+    ("ix", "[]", 2),
+    ("qu", "?:", 3),
+];
+
+/// The builtin types of the ABI, section 5.1.5.2, that are one word. `DF16b` stands there with `DF`, and the fixed-point types by
+/// their two parts.
+const BUILTIN_TYPES: [(&str, &str); 56] = [
+    ("v", "void"),
+    ("w", "wchar_t"),
+    ("b", "bool"),
+    ("c", "char"),
+    ("a", "signed char"),
+    ("h", "unsigned char"),
+    ("s", "short"),
+    ("t", "unsigned short"),
+    ("i", "int"),
+    ("j", "unsigned int"),
+    ("l", "long"),
+    ("m", "unsigned long"),
+    ("x", "long long"),
+    ("y", "unsigned long long"),
+    ("n", "__int128"),
+    ("o", "unsigned __int128"),
+    ("f", "float"),
+    ("d", "double"),
+    ("e", "long double"),
+    ("g", "__float128"),
+    ("z", "..."),
+    ("Dd", "decimal64"),
+    ("De", "decimal128"),
+    ("Df", "decimal32"),
+    ("Dh", "half"),
+    ("DF16b", "std::bfloat16_t"),
+    ("DAs", "short _Accum"),
+    ("DAt", "unsigned short _Accum"),
+    ("DAi", "_Accum"),
+    ("DAj", "unsigned _Accum"),
+    ("DAl", "long _Accum"),
+    ("DAm", "unsigned long _Accum"),
+    ("DRs", "short _Fract"),
+    ("DRt", "unsigned short _Fract"),
+    ("DRi", "_Fract"),
+    ("DRj", "unsigned _Fract"),
+    ("DRl", "long _Fract"),
+    ("DRm", "unsigned long _Fract"),
+    ("DSDAs", "_Sat short _Accum"),
+    ("DSDAt", "_Sat unsigned short _Accum"),
+    ("DSDAi", "_Sat _Accum"),
+    ("DSDAj", "_Sat unsigned _Accum"),
+    ("DSDAl", "_Sat long _Accum"),
+    ("DSDAm", "_Sat unsigned long _Accum"),
+    ("DSDRs", "_Sat short _Fract"),
+    ("DSDRt", "_Sat unsigned short _Fract"),
+    ("DSDRi", "_Sat _Fract"),
+    ("DSDRj", "_Sat unsigned _Fract"),
+    ("DSDRl", "_Sat long _Fract"),
+    ("DSDRm", "_Sat unsigned long _Fract"),
+    ("Di", "char32_t"),
+    ("Ds", "char16_t"),
+    ("Du", "char8_t"),
+    ("Da", "auto"),
+    ("Dc", "decltype(auto)"),
+    ("Dn", "std::nullptr_t"),
+];
+
+/// The abbreviations of the ABI, section 5.1.10, and the names of their constructors.
+const COMPONENTS: [(&str, &str, Option<&str>); 7] = [
+    ("St", "std", None),
+    ("Sa", "std::allocator", Some("allocator")),
+    ("Sb", "std::basic_string", Some("basic_string")),
+    ("Ss", "std::string", Some("string")),
+    (
+        "Si",
+        "std::basic_istream<char, std::char_traits<char> >",
+        Some("basic_istream"),
+    ),
+    ("So", "std::ostream", Some("ostream")),
+    (
+        "Sd",
+        "std::basic_iostream<char, std::char_traits<char> >",
+        Some("basic_iostream"),
+    ),
+];
+
+#[test]
+fn operators_are_those_of_the_abi(rt: HostRuntime) -> std::result::Result<(), Fail> {
+    for (word, text, arity) in OPERATORS {
+        let (operator, rest) = SimpleOperatorName::read_word(IndexStr::new(word.as_bytes()))?;
+        assert!(rt; rest.is_empty(), "at {word}");
+        assert_eq!(rt; operator.text(), text);
+        assert_eq!(rt; operator.arity(), arity, "at {word}");
+        assert!(rt;
+            word.as_bytes()
+                .first()
+                .is_some_and(|byte| SimpleOperatorName::starts_with(*byte)),
+            "at {word}"
+        );
+    }
+    assert_eq!(rt; SimpleOperatorName::New.number(), 0);
+    assert_eq!(rt; SimpleOperatorName::Spaceship.number(), 47);
+    Ok(())
+}
+
+#[test]
+fn builtin_types_are_those_of_the_abi(rt: HostRuntime) -> std::result::Result<(), Fail> {
+    for (word, text) in BUILTIN_TYPES {
+        let (builtin, rest) = StandardBuiltinType::read_word(IndexStr::new(word.as_bytes()))?;
+        assert!(rt; rest.is_empty(), "at {word}");
+        assert_eq!(rt; builtin.text(), text);
+        assert!(rt;
+            word.as_bytes()
+                .first()
+                .is_some_and(|byte| StandardBuiltinType::starts_with(*byte)),
+            "at {word}"
+        );
+    }
+    assert_eq!(rt; StandardBuiltinType::Void.number(), 0);
+    assert_eq!(rt; StandardBuiltinType::SatFractULong.number(), 55);
+    Ok(())
+}
+
+#[test]
+fn components_are_those_of_the_abi(rt: HostRuntime) -> std::result::Result<(), Fail> {
+    for (word, text, leaf) in COMPONENTS {
+        let (component, rest) = WellKnownComponent::read_word(IndexStr::new(word.as_bytes()))?;
+        assert!(rt; rest.is_empty(), "at {word}");
+        assert_eq!(rt; component.text(), text);
+        match component {
+            WellKnownComponent::Std => assert_eq!(rt; leaf, None),
+            _ => assert_eq!(rt; Some(component.leaf_text()), leaf),
+        }
+    }
+    assert!(rt; WellKnownComponent::starts_with(b'S'));
+    assert_eq!(rt; WellKnownComponent::StdIostream.number(), 6);
+    Ok(())
+}
+
+#[test]
+fn qualifiers_are_those_of_the_abi(rt: HostRuntime) -> std::result::Result<(), Fail> {
+    let (lvalue, rest) = RefQualifier::read_word(IndexStr::new(b"RO"))?;
+    let (rvalue, rest) = RefQualifier::read_word(rest)?;
+    assert!(rt; rest.is_empty());
+    assert_eq!(rt; (lvalue.text(), lvalue.number()), ("&", 0));
+    assert_eq!(rt; (rvalue.text(), rvalue.number()), ("&&", 1));
+    assert!(rt; RefQualifier::starts_with(b'O'));
+    let (explicit, rest) = ExplicitObjectParameter::read_word(IndexStr::new(b"H1a"))?;
+    assert!(rt; rest.eq_bytes(b"1a"));
+    assert_eq!(rt; (explicit.text(), explicit.number()), ("this", 0));
+    assert!(rt; ExplicitObjectParameter::starts_with(b'H'));
+    no_word_is_a_prefix();
+    the_word_at_the_front_is_read();
+    Ok(())
+}
+
+#[test]
+fn builtin_types_are_refused_as_the_grammar_says(rt: HostRuntime) {
+    let cases: [(&str, Result<(StandardBuiltinType, &str)>); 8] = [
+        ("", Err(Error::UnexpectedEnd)),
+        ("D", Err(Error::UnexpectedEnd)),
+        ("DF1", Err(Error::UnexpectedEnd)),
+        ("DSD", Err(Error::UnexpectedEnd)),
+        ("DQ", Err(Error::UnexpectedText)),
+        ("DF17", Err(Error::UnexpectedText)),
+        ("q", Err(Error::UnexpectedText)),
+        ("DF16bx", Ok((StandardBuiltinType::BFloat16, "x"))),
+    ];
+    for (text, want) in cases {
+        match (
+            StandardBuiltinType::read_word(IndexStr::new(text.as_bytes())),
+            want,
+        ) {
+            (Ok((builtin, rest)), Ok((wanted, left))) => {
+                assert_eq!(rt; builtin, wanted);
+                assert!(rt; rest.eq_bytes(left.as_bytes()), "at {text}");
+            }
+            (Err(error), Err(wanted)) => assert_eq!(rt; error, wanted, "at {text}"),
+            _ => assert!(rt; false, "at {text}"),
+        }
+    }
+}
