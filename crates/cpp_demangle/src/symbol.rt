@@ -5,7 +5,10 @@ ghost use Rattle.cpp_demangle.specs.Answer.{text_under};
 
 use std::alloc::Global;
 
-use crate::options::{DemangleOptions, ParseOptions};
+use demangle_text::ParseOptions;
+
+use crate::call::call_text;
+use crate::options::DemangleOptions;
 
 /// Why a name has no text.
 #[derive(Clone, Copy, Debug, PartialEq, Eq)]
@@ -16,15 +19,28 @@ pub enum SymbolFault {
     OutOfMemory,
 }
 
-/// The text of a name.
+/// The text of a linker name, whole. Both options have to be the defaults, and the name that of a plain function, with
+/// one-letter builtin types alone: `_Z3fooib` is `foo(int, bool)`.
+///
+/// `NotBuilt` comes exactly where the name or an option is another, `OutOfMemory` where there is no memory for the text.
 pub fn demangle_symbol(
-    _alloc: Global,
-    _bytes: &[u8],
-    _parse: &ParseOptions,
-    _print: &DemangleOptions,
+    alloc: Global,
+    bytes: &[u8],
+    parse: &ParseOptions,
+    print: &DemangleOptions,
 ) -> Result<String, SymbolFault>
-    ensures text { IfOk result (λ text. text_under _parse.now.limit _print.now.limit _bytes.now ≡ Some (string_bytes text)) }
-    ensures not_built { IsErrOf result SymbolFault.NotBuilt → text_under _parse.now.limit _print.now.limit _bytes.now ≡ None }
+    ensures text { IfOk result (λ text. text_under parse.now print.now bytes.now ≡ Some (string_bytes text)) }
+    ensures not_built { IsErrOf result SymbolFault.NotBuilt → text_under parse.now print.now bytes.now ≡ None }
 {
-    Err(SymbolFault::OutOfMemory)
+    if parse.limit() != ParseOptions::default().limit() {
+        return Err(SymbolFault::NotBuilt);
+    }
+    if print.limit() != DemangleOptions::default().limit() {
+        return Err(SymbolFault::NotBuilt);
+    }
+    match call_text(alloc, bytes) {
+        Ok(Some(text)) => Ok(text),
+        Ok(None) => Err(SymbolFault::NotBuilt),
+        Err(_) => Err(SymbolFault::OutOfMemory),
+    }
 }

@@ -1,3 +1,0 @@
-/// F.
-#[derive(Clone, Copy)]
-pub struct Failed;

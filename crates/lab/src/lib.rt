@@ -1,4 +1,0 @@
-//! Lab.
-#![tactic(auto)]
-pub mod status;
-pub mod ends;
