@@ -7,10 +7,9 @@ ghost use Rattle.demangle_vocab.specs.Table.{text_at, word_read};
 ghost use Rattle.demangle_vocab.specs.Builtins.{builtins, builtin_words, number_of_builtin};
 ghost use Rattle.demangle_grammar.specs.CallText.{call_text, call_with, identifier_of, is_identifier, is_identifier_byte, joined, letter_text, further_types, type_texts, parameters, source_name};
 
-use std::alloc::{AllocError, Global};
-
 use demangle_text::{IndexStr, consume, parse_unsigned};
 use demangle_vocab::StandardBuiltinType;
+use std::alloc::{AllocError, Global};
 
 /// Whether an identifier may have this byte: ASCII letters, digits, `$`, `_` and `.`.
 fn is_identifier_byte(byte: u8) -> bool
@@ -101,11 +100,7 @@ fn push_types(text: &mut String, types: IndexStr<'_>) -> Result<bool, AllocError
 }
 
 /// The text of a function's name with these types, or nothing where they are other types.
-fn call_with(
-    alloc: Global,
-    name: &str,
-    types: IndexStr<'_>,
-) -> Result<Option<String>, AllocError>
+fn call_with(alloc: Global, name: &str, types: IndexStr<'_>) -> Result<Option<String>, AllocError>
     ensures { IfOk result (λ text. MatchOption text (call_with name.now (spot types.entry).left ≡ None)
         (λ text. call_with name.now (spot types.entry).left ≡ Some (string_bytes text))) }
 {

@@ -2,12 +2,10 @@
 #![tactic(auto)]
 
 mod call;
+pub mod error;
 mod options;
 mod symbol;
 
-pub mod error;
-
 pub use demangle_text::ParseOptions;
 pub use options::DemangleOptions;
-pub use symbol::SymbolFault;
-pub use symbol::demangle_symbol;
+pub use symbol::{SymbolFault, demangle_symbol};

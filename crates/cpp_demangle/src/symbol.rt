@@ -3,12 +3,10 @@
 ghost use Rattle.std.specs.Prelude.{◌≡◌, Some, None, IfOk, IsErrOf, string_bytes};
 ghost use Rattle.cpp_demangle.specs.Answer.{text_under};
 
-use std::alloc::Global;
-
-use demangle_text::ParseOptions;
-
 use crate::call::call_text;
 use crate::options::DemangleOptions;
+use demangle_text::ParseOptions;
+use std::alloc::Global;
 
 /// Why a name has no text.
 #[derive(Clone, Copy, Debug, PartialEq, Eq)]

@@ -88,12 +88,15 @@ pub stop-read : {limit r0 r w0 w t0 t : ℕ} {left0 left out0 out : Bytes} {befo
     → Going limit r0 r w0 w t0 t left0 left out0 out before after count → (r ≤ r') × Rose r r' → t' ≡ t → Keeps left left' → Stopped ReadFault limit r0 r' w0 w t0 t' left0 left' out0 out before
 stop-read {limit} {r0} {r} {w0} {w} {t0} {t} {left0} {left} {out0} {out} {before} {after} {count} r' t' left' g rose et kept =
     let e = g.reads in let h = g.at_most in let k = g.within in
-    let c = Consumes-kept left0 left left' g.progress.bytes g.progress.consumes kept in
-    ((omega (arith, rose.0), rw (← e) rose.1), g.writes, omega arith,
-    record {
+    let c = Consumes-kept left0 left left' g.progress.bytes g.progress.consumes kept in (
+      (omega (arith, rose.0), rw (← e) rose.1),
+      g.writes,
+      omega arith,
+      record {
         long = cut-long left0 left' g.progress.bytes 0 c (omega arith);
         front = cut-front left0 left' out0 out before g.progress.bytes c (λ more. begins out0 out (before (g.progress.bytes ++ more)) (after more) (g.progress.moves more));
-    })
+      },
+    )
 
 -- the end of the input
 ended-bytes : {left0 left out0 out : Bytes} {before after : List ℕ → List ℕ} {count : ℕ} (left' : Bytes) → (p : Progress left0 left out0 out before after count) → Consumes left left' [] → Consumes left0 left' p.bytes
@@ -106,8 +109,8 @@ cut-end : {left0 left out0 out : Bytes} {before after : List ℕ → List ℕ} {
 cut-end {left0} {left} {out0} {out} {before} {after} left' out' p c end b =
     let c' = ended-bytes left' p c in
     record {
-        long = cut-long left0 left' p.bytes 0 c' (omega arith);
-        front = whole-begins left0 left' out0 out' before p.bytes c' end (begins-then out0 out out' (before p.bytes) (after []) (ended-moves p) b);
+      long = cut-long left0 left' p.bytes 0 c' (omega arith);
+      front = whole-begins left0 left' out0 out' before p.bytes c' end (begins-then out0 out out' (before p.bytes) (after []) (ended-moves p) b);
     }
 
 all-end : {left0 left out0 out : Bytes} {before after : List ℕ → List ℕ} {count : ℕ} (left' out' : Bytes) → Progress left0 left out0 out before after count → Consumes left left' [] → IsAtEnd left' → Moves out out' (after []) [] → Ended left0 left' out0 out' before
@@ -136,8 +139,8 @@ cut-write : {left0 left out0 out : Bytes} {before after : List ℕ → List ℕ}
 cut-write {left0} {left} {out0} {out} {before} {after} left' out' bytes p c f =
     let c' = Consumes-trans left0 left left' p.bytes bytes p.consumes c in
     record {
-        long = cut-long left0 left' (p.bytes ++ bytes) 0 c' (omega arith);
-        front = cut-front left0 left' out0 out' before (p.bytes ++ bytes) c' (λ more. rw (append_assoc p.bytes bytes more) (begins-then out0 out out' (before (p.bytes ++ (bytes ++ more))) (after (bytes ++ more)) (p.moves (bytes ++ more)) (f more)));
+      long = cut-long left0 left' (p.bytes ++ bytes) 0 c' (omega arith);
+      front = cut-front left0 left' out0 out' before (p.bytes ++ bytes) c' (λ more. rw (append_assoc p.bytes bytes more) (begins-then out0 out out' (before (p.bytes ++ (bytes ++ more))) (after (bytes ++ more)) (p.moves (bytes ++ more)) (f more)));
     }
 
 taken-more : {limit r0 r w0 w t0 t : ℕ} {left0 left out0 out : Bytes} {before after : List ℕ → List ℕ} {count : ℕ} (n t' : ℕ) → Going limit r0 r w0 w t0 t left0 left out0 out before after count → t' ≡ min (t + n) (2 ^ 64 - 1) → count + n ≤ limit → t' ≤ t0 + limit
@@ -158,12 +161,15 @@ stop-long {limit} {r0} {r} {w0} {w} {t0} {t} {left0} {left} {out0} {out} {before
     let k = g.within in
     let p = g.progress in
     let c' = Consumes-trans left0 left left' p.bytes bytes p.consumes c in
-    let counted = p.counted in
-    (er ∙ g.reads, g.writes, elim (count-more t0 t count n g.at_least) [ inl e ↦ inl (omega arith) | inr last ↦ inr (omega arith) ],
-    record {
+    let counted = p.counted in (
+      er ∙ g.reads,
+      g.writes,
+      elim (count-more t0 t count n g.at_least) [ inl e ↦ inl (omega arith) | inr last ↦ inr (omega arith) ],
+      record {
         long = cut-long left0 left' (p.bytes ++ bytes) (limit + 1) c' (rw length-append (omega arith));
         front = cut-front left0 left' out0 out before (p.bytes ++ bytes) c' (λ more. rw (append_assoc p.bytes bytes more) (begins out0 out (before (p.bytes ++ (bytes ++ more))) (after (bytes ++ more)) (p.moves (bytes ++ more))));
-    })
+      },
+    )
 
 -- the end of the input, by what the sink answered
 pub finished-refused : (e : SinkFault) (w w' : ℕ) (out out' : Bytes) (whole : List ℕ) → SinkCause {T = Unit {0}} w w' (Err e) → Begins out out' whole → Finished (refusal_status e) w w' out out' whole
@@ -186,12 +192,13 @@ stop-empty {limit} {r0} {r} {w0} {w} {t0} {t} {left0} {left} {out0} {out} {befor
 pub stop-memory : (limit r w t : ℕ) (left out : Bytes) (before : List ℕ → List ℕ) → Stopped OutOfMemory limit r r w w t t left left out out before
 stop-memory limit r w t left out before = (refl, refl, omega arith, record { long = none-long left; front = none-front left out before })
   where
-  none-long : (left : Bytes) → IfSome left (λ input. 0 ≤ length input)
-  none-long None = tt
-  none-long (Some x) = omega arith
-  none-front : (left out : Bytes) (before : List ℕ → List ℕ) → IfSome left (λ input. Begins out out (before input))
-  none-front None out before = tt
-  none-front (Some x) out before = begins-none out (before x)
+    none-long : (left : Bytes) → IfSome left (λ input. 0 ≤ length input)
+    none-long None = tt
+    none-long (Some x) = omega arith
+
+    none-front : (left out : Bytes) (before : List ℕ → List ℕ) → IfSome left (λ input. Begins out out (before input))
+    none-front None out before = tt
+    none-front (Some x) out before = begins-none out (before x)
 
 -- a filter at the beginning of a line
 pub stop-from-start : (s : Status) (limit r0 r w0 w t0 t : ℕ) (left0 left out0 out : Bytes) (gathered : List ℕ) (passing : Bool) (held : List ℕ) → (held ≡ []) × (passing ≡ false) × (gathered ≡ [])

@@ -9,13 +9,11 @@ ghost use Rattle.cppfilt.specs.Outcome.{Stopped, Finished};
 ghost use Rattle.cppfilt.specs.Owed.{ahead};
 ghost use Rattle.cppfilt.specs.Statuses.{refusal_status};
 
-use std::alloc::Global;
-
-use cpp_demangle::error::SinkFault;
-
 use crate::ends::{Failed, Sink, Source};
 use crate::lines::LineFilter;
 use crate::status::Status;
+use cpp_demangle::error::SinkFault;
+use std::alloc::Global;
 
 /// How many bytes are asked for by one read.
 const BLOCK: usize = 64 * 1024;
@@ -90,7 +88,9 @@ fn filter_blocks<R: Source, W: Sink>(
 {
     let mut taken: u64 = 0;
     while taken < limit {
-        let most = block.len().min(usize::try_from(limit - taken).unwrap_or(usize::MAX));
+        let most = block
+            .len()
+            .min(usize::try_from(limit - taken).unwrap_or(usize::MAX));
         match read_front(input, block, most) {
             Err(Failed) => return Status::ReadFault,
             Ok(0) => return end_input(filter, output),

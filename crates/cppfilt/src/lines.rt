@@ -1,6 +1,6 @@
 //! Lines: what a line becomes, and the cutting of blocks of input into lines.
 
-ghost use Rattle.std.specs.Prelude.{◌≡◌, ℕ, ◌+◌, ◌≤◌, List, [], ◌∷◌, ◌++◌, length, take, OnOk, IfOk, unwrap_or, vec_len, ◌<◌, MatchOption, false};
+ghost use Rattle.std.specs.Prelude.{◌≡◌, ℕ, ◌+◌, ◌≤◌, List, [], ◌∷◌, ◌++◌, length, take, OnOk, IfOk, unwrap_or, vec_len, ◌<◌, MatchOption, false, slice_index, ◌==◌};
 ghost use Rattle.std.specs.Option.{option_map};
 ghost use Rattle.demangle_grammar.specs.Lines.{before_feed, body, shown, shown_line, due, ending};
 ghost use Rattle.cppfilt.specs.Causes.{SinkCause};
@@ -8,13 +8,11 @@ ghost use Rattle.cppfilt.specs.Moves.{Moves, Begins};
 ghost use Rattle.cppfilt.specs.Owed.{owed, ahead, completed};
 ghost use Rattle.cppfilt.specs.Shown.{text_or};
 
-use std::alloc::{AllocError, Global};
-
-use cpp_demangle::error::SinkFault;
-use cpp_demangle::{DemangleOptions, ParseOptions, SymbolFault, demangle_symbol};
-
 use crate::ends::Sink;
 use crate::output::{GATHERED, emit, flush};
+use cpp_demangle::error::SinkFault;
+use cpp_demangle::{DemangleOptions, ParseOptions, SymbolFault, demangle_symbol};
+use std::alloc::{AllocError, Global};
 
 /// A line with more bytes than this before its ending is never asked for its text.
 const LINE_LIMIT: usize = 1_048_576;
@@ -23,7 +21,15 @@ const LINE_LIMIT: usize = 1_048_576;
 const HELD_LIMIT: usize = LINE_LIMIT + 2;
 
 const LINE_FEED: u8 = 10;
+
 const CARRIAGE_RETURN: u8 = 13;
+
+/// Whether a name may begin so.
+fn begins_name(bytes: &[u8]) -> bool
+    ensures { result ≡ (slice_index bytes.now 0 == 95) }
+{
+    matches!(bytes, [b'_', ..])
+}
 
 /// The text that is shown in place of a line's bytes, or `None` where they stay.
 fn text_of(alloc: Global, bytes: &[u8]) -> Result<Option<String>, AllocError>
@@ -32,7 +38,15 @@ fn text_of(alloc: Global, bytes: &[u8]) -> Result<Option<String>, AllocError>
     if bytes.len() > LINE_LIMIT {
         return Ok(None);
     }
-    match demangle_symbol(alloc, bytes, &ParseOptions::default(), &DemangleOptions::default()) {
+    if !begins_name(bytes) {
+        return Ok(None);
+    }
+    match demangle_symbol(
+        alloc,
+        bytes,
+        &ParseOptions::default(),
+        &DemangleOptions::default(),
+    ) {
         Ok(text) => Ok(Some(text)),
         Err(SymbolFault::NotBuilt) => Ok(None),
         Err(SymbolFault::OutOfMemory) => Err(AllocError),

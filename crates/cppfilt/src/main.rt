@@ -10,13 +10,12 @@ mod run;
 mod standard;
 mod status;
 
-use std::alloc::AllocError;
-use std::env::{self, Env};
-use std::process::ExitCode;
-
 use crate::run::run;
 use crate::standard::{StdSink, StdSource};
 use crate::status::Status;
+use std::alloc::AllocError;
+use std::env::{self, Env};
+use std::process::ExitCode;
 
 /// The words after the program's name. Words that are no text count as one word that is refused.
 fn words(rt: &(impl Env + AllocGlobal)) -> Result<Vec<String>, AllocError> {

@@ -2,11 +2,9 @@
 
 ghost use Rattle.std.specs.Prelude.{◌≡◌, ◌≤◌, Some, None, List, [], drop, vec_len, length};
 
-use std::alloc::Global;
-
-use cpp_demangle::error::SinkFault;
-
 use crate::ends::{Failed, Sink, Source};
+use cpp_demangle::error::SinkFault;
+use std::alloc::Global;
 
 /// A source of given bytes.
 #[derive(Drop)]

@@ -4,9 +4,8 @@ ghost use Rattle.std.specs.Prelude.{◌≡◌, ◌++◌, [], OnOk};
 ghost use Rattle.cppfilt.specs.Causes.{SinkCause};
 ghost use Rattle.cppfilt.specs.Moves.{Moves, Begins};
 
-use cpp_demangle::error::SinkFault;
-
 use crate::ends::Sink;
+use cpp_demangle::error::SinkFault;
 
 /// How many bytes are gathered before they are written.
 pub(crate) const GATHERED: usize = 256 * 1024;
@@ -58,11 +57,7 @@ pub(crate) fn emit<W: Sink>(
 }
 
 /// Writes what is gathered, and then these bytes, or gathers them.
-fn emit_many<W: Sink>(
-    output: &mut W,
-    pending: &mut Vec<u8>,
-    bytes: &[u8],
-) -> Result<(), SinkFault>
+fn emit_many<W: Sink>(output: &mut W, pending: &mut Vec<u8>, bytes: &[u8]) -> Result<(), SinkFault>
     ensures all { OnOk result
         (Moves (W.written output.old) (W.written output.new) (pending.old.items ++ bytes.now) pending.new.items) }
     ensures front { Begins (W.written output.old) (W.written output.new) (pending.old.items ++ bytes.now) }

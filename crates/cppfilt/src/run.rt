@@ -7,14 +7,12 @@ ghost use Rattle.cppfilt.specs.Causes.{Rose, NoFault};
 ghost use Rattle.cppfilt.specs.Moves.{Begins};
 ghost use Rattle.cppfilt.specs.StatusText.{message_of};
 
-use std::alloc::Global;
-
-use cpp_demangle::error::SinkFault;
-
 use crate::ends::{Sink, Source};
 use crate::filter::filter_lines;
 use crate::output::write_all;
 use crate::status::Status;
+use cpp_demangle::error::SinkFault;
+use std::alloc::Global;
 
 /// How many bytes of input are taken at most: 2^40.
 const INPUT_LIMIT: u64 = 1 << 40;

@@ -2,11 +2,9 @@
 
 ghost use Rattle.std.specs.Prelude.{◌≡◌, None};
 
-use std::io::{Read, Write};
-
-use cpp_demangle::error::SinkFault;
-
 use crate::ends::{Failed, Sink, Source};
+use cpp_demangle::error::SinkFault;
+use std::io::{Read, Write};
 
 /// A reader, as standard input, with the counts of its faults and of the bytes taken.
 #[derive(Drop)]
@@ -65,7 +63,6 @@ impl<W: Write> StdSink<W> {
     {
         StdSink { inner, faults: 0 }
     }
-
 }
 
 impl<W: Write> Sink for StdSink<W> {

@@ -3,7 +3,7 @@ use Rattle.std.proofs.Common.{eq-eqb, min, get_or, ◌≡◌, ℕ, suc, ◌+◌,
 use Rattle.std.proofs.lemmas.Grind.{common_steps}
 use Rattle.std.proofs.lemmas.List.Folds.{prefix_len-append}
 use Rattle.std.proofs.Math.Seq.{take-append-add, drop-append-add, take-length}
-use Rattle.std.specs.Prelude.{unwrap_or}
+use Rattle.std.specs.Prelude.{unwrap_or, None}
 use Rattle.demangle_grammar.specs.CallText.{call_text}
 use Rattle.demangle_grammar.specs.Lines.{before_feed, lines, onto_first, shown, shown_line, due, body, ending, without_last, line_limit}
 
@@ -156,3 +156,9 @@ long-line l h =
 pub shown-short : (b : List ℕ) → length b ≤ line_limit → shown b ≡ unwrap_or (call_text b) b
 unfolding shown
 shown-short b h = let e : nat_le (length b) line_limit ≡ true = search (rules, tests) in rw e refl
+
+-- no name begins with another byte than `_`
+pub call-other : (b : List ℕ) → eqb (get_or b 0 0) 95 ≡ false → call_text b ≡ None
+unfolding call_text
+call-other [] other = refl
+call-other (x ∷ xs) other = let e : eqb 95 x ≡ false = search (rules, tests) in rw e refl

@@ -17,9 +17,9 @@ is_identifier_byte b = is_digit b || (is_capital b || (is_small b || ((b == 36) 
 abbrev pub is_identifier : List ℕ → Bool
 is_identifier name = not_empty name && list_all is_identifier_byte name
   where
-  not_empty : List ℕ → Bool
-  not_empty [] = false
-  not_empty (b ∷ bs) = true
+    not_empty : List ℕ → Bool
+    not_empty [] = false
+    not_empty (b ∷ bs) = true
 
 -- an identifier of so many bytes, and the bytes behind it
 abbrev pub identifier_of : ℕ → List ℕ → Option (List ℕ × List ℕ)

@@ -19,5 +19,5 @@ returns-in-Ok-consume c =
 pub returns-in-Err : goal.returns-in-Err
 returns-in-Err c =
     let whole = call-behind c.args.bytes.now (spot c.new.result) (spot c.in-Ok.rest) c.new.ensures.bytes c.in-Ok.ensures ∙ ap call_of c.in-Some.ensures
-        ∙ call-plain c.in-Some.name.now c.in-Some.types.string.now (spot c.new-2.result) _ (c.new-2.ensures.bytes ∙ c.as_bytes.ensures.value) c.in-Err.ensures in
+    ∙ call-plain c.in-Some.name.now c.in-Some.types.string.now (spot c.new-2.result) _ (c.new-2.ensures.bytes ∙ c.as_bytes.ensures.value) c.in-Err.ensures in
     rw whole c.call_with.ensures

@@ -31,8 +31,9 @@ pub loop-taken-preserved : goal.loop-taken-preserved
 loop-taken-preserved g c =
     let then = c.take_block.new.self in
     let within : c.loop-taken.taken + c.in-Ok.count ≤ c.args.limit = search rules in
-    let small : c.in-Ok.count ≤ length c.read_front.new.block = search rules in
-    (going-more c.in-Ok.count _ _ _ _ _ (λ more. ahead then.pending.items then.passing then.held.items more) (take c.in-Ok.count c.read_front.new.block) c.loop-taken.invariant.0 c.in-Ok.ensures.cause
-    c.in_default.ensures.cause c.in-Ok.ensures.count (length-take-le c.in-Ok.count c.read_front.new.block small) c.in-Ok.ensures.bytes.0 c.in_default.ensures.all within,
-    c.in_default.ensures.free,
-    search rules)
+    let small : c.in-Ok.count ≤ length c.read_front.new.block = search rules in (
+      going-more c.in-Ok.count _ _ _ _ _ (λ more. ahead then.pending.items then.passing then.held.items more) (take c.in-Ok.count c.read_front.new.block) c.loop-taken.invariant.0 c.in-Ok.ensures.cause
+          c.in_default.ensures.cause c.in-Ok.ensures.count (length-take-le c.in-Ok.count c.read_front.new.block small) c.in-Ok.ensures.bytes.0 c.in_default.ensures.all within,
+      c.in_default.ensures.free,
+      search rules,
+    )

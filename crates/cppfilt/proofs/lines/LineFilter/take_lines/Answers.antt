@@ -23,11 +23,12 @@ loop-end-preserved g c =
     let now = c.complete.new.self in
     let first : List ℕ → List ℕ = λ more. ahead this.pending.items this.passing this.held.items (c.args.block.now ++ more) in
     let mid : List ℕ → List ℕ = λ bytes. ahead then.pending.items then.passing then.held.items bytes in
-    let last : List ℕ → List ℕ = λ bytes. ahead now.pending.items now.passing now.held.items bytes in
-    (moves-line _ _ _ first mid last c.loop-end.rest.now c.split_at.result.0.now c.split_at.result.1.now
-    (cut-joins c.loop-end.rest.now _ _ c.in-Some.end c.split_at.ensures.front c.split_at.ensures.back) c.loop-end.invariant.0 c.in_ok-complete.ensures.all,
-    c.in_ok-complete.ensures.cause ∙ c.loop-end.invariant.1,
-    c.in_ok-complete.ensures.free)
+    let last : List ℕ → List ℕ = λ bytes. ahead now.pending.items now.passing now.held.items bytes in (
+      moves-line _ _ _ first mid last c.loop-end.rest.now c.split_at.result.0.now c.split_at.result.1.now
+          (cut-joins c.loop-end.rest.now _ _ c.in-Some.end c.split_at.ensures.front c.split_at.ensures.back) c.loop-end.invariant.0 c.in_ok-complete.ensures.all,
+      c.in_ok-complete.ensures.cause ∙ c.loop-end.invariant.1,
+      c.in_ok-complete.ensures.free,
+    )
 
 pub returns-in_err-hold-clause-front : goal.returns-in_err-hold-clause-front
 returns-in_err-hold-clause-front g c =
