@@ -1,3 +1,4 @@
+pub mod ChunkLaws
 pub mod FilterLaws
 pub mod MoveLaws
 pub mod OwedLaws

@@ -4,7 +4,7 @@ use Rattle.std.proofs.lemmas.Iterator.Search.{position_from_yields_List}
 use Rattle.std.proofs.lemmas.List.Sums.{prefix_len-le-length}
 use Rattle.std.specs.Prelude.{Option}
 use Rattle.demangle_grammar.specs.Lines.{before_feed}
-use Rattle.cppfilt.proofs.lines.through_line_feed.Goals as goal
+use Rattle.cppfilt.proofs.lines.through_near_feed.Goals as goal
 
 -- what a search for a line feed says
 abbrev At : List ℕ → Option ℕ → Type 0
