@@ -1,0 +1,4 @@
+pub mod Core
+pub mod TreeLeaves
+pub mod TreeNodes
+pub mod TreeEntries

@@ -1,0 +1,6 @@
+//! Words (stand-in).
+#![tactic(auto)]
+
+mod words;
+
+pub use words::{ExplicitObjectParameter, RefQualifier, SimpleOperatorName, StandardBuiltinType, WellKnownComponent};
