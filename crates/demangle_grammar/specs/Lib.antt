@@ -1,0 +1,12 @@
+pub mod Words
+pub mod Table
+pub mod Rule
+pub mod Items
+pub mod Rows
+pub mod Tree
+pub mod Reading
+pub mod First
+pub mod Fits
+pub mod Code
+pub mod Seen
+pub mod Laws
