@@ -5,23 +5,7 @@ use Rattle.std.specs.Option.{option_eq}
 use Rattle.std.specs.Cmp.Lexicographic.{pointwise}
 use Rattle.std.proofs.Common.{rules}
 use Rattle.std.specs.Prelude.{nat_eq, pos, Option, Some, None}
-use Rattle.demangle_tree.specs.TreeLeaves.{tree_of_option, tree_of_number, word_of_simple_operator_name, word_of_standard_builtin_type, word_of_well_known_component, word_of_ref_qualifier, word_of_explicit_object_parameter}
-use denote.Enum.Declared.{tag_of}
-use Rattle.demangle_vocab.specs.declared.words.SimpleOperatorName.{SimpleOperatorName}
-use Rattle.demangle_vocab.specs.declared.words.SimpleOperatorName.TheVariants as of_simple_operator_name
-use Rattle.demangle_vocab.specs.contracts.words.SimpleOperatorName as the_simple_operator_name
-use Rattle.demangle_vocab.specs.declared.words.StandardBuiltinType.{StandardBuiltinType}
-use Rattle.demangle_vocab.specs.declared.words.StandardBuiltinType.TheVariants as of_standard_builtin_type
-use Rattle.demangle_vocab.specs.contracts.words.StandardBuiltinType as the_standard_builtin_type
-use Rattle.demangle_vocab.specs.declared.words.WellKnownComponent.{WellKnownComponent}
-use Rattle.demangle_vocab.specs.declared.words.WellKnownComponent.TheVariants as of_well_known_component
-use Rattle.demangle_vocab.specs.contracts.words.WellKnownComponent as the_well_known_component
-use Rattle.demangle_vocab.specs.declared.words.RefQualifier.{RefQualifier}
-use Rattle.demangle_vocab.specs.declared.words.RefQualifier.TheVariants as of_ref_qualifier
-use Rattle.demangle_vocab.specs.contracts.words.RefQualifier as the_ref_qualifier
-use Rattle.demangle_vocab.specs.declared.words.ExplicitObjectParameter.{ExplicitObjectParameter}
-use Rattle.demangle_vocab.specs.declared.words.ExplicitObjectParameter.TheVariants as of_explicit_object_parameter
-use Rattle.demangle_vocab.specs.contracts.words.ExplicitObjectParameter as the_explicit_object_parameter
+use Rattle.demangle_tree.specs.TreeLeaves.{tree_of_option, tree_of_number}
 use Rattle.demangle_tree.specs.Core.{Core, Tag, end, node, place, number, flag, chosen, ref, mark, ◌⊕◌, trees, numbers, same, alike}
 
 -- ---- rows
@@ -85,27 +69,5 @@ list_of_numbers [] [] = refl
 list_of_numbers [] (y ∷ ys) = refl
 list_of_numbers (x ∷ xs) [] = refl
 list_of_numbers (x ∷ xs) (y ∷ ys) = ap (λ b. int_eq x y && b) (list_of_numbers xs ys)
-
--- ---- the number of a word is its position in its table
-pub number_of_simple_operator_name : (x : SimpleOperatorName) → tag_of the_simple_operator_name.the_type x ≡ word_of_simple_operator_name x
-number_of_simple_operator_name of_simple_operator_name.New = refl
-number_of_simple_operator_name _ = refl
-
-pub number_of_standard_builtin_type : (x : StandardBuiltinType) → tag_of the_standard_builtin_type.the_type x ≡ word_of_standard_builtin_type x
-number_of_standard_builtin_type of_standard_builtin_type.Void = refl
-number_of_standard_builtin_type _ = refl
-
-pub number_of_well_known_component : (x : WellKnownComponent) → tag_of the_well_known_component.the_type x ≡ word_of_well_known_component x
-number_of_well_known_component of_well_known_component.Std = refl
-number_of_well_known_component _ = refl
-
-pub number_of_ref_qualifier : (x : RefQualifier) → tag_of the_ref_qualifier.the_type x ≡ word_of_ref_qualifier x
-number_of_ref_qualifier of_ref_qualifier.LValueRef = refl
-number_of_ref_qualifier _ = refl
-
-pub number_of_explicit_object_parameter : (x : ExplicitObjectParameter) → tag_of the_explicit_object_parameter.the_type x ≡ word_of_explicit_object_parameter x
-number_of_explicit_object_parameter of_explicit_object_parameter.ExplicitObjectParameter = refl
-
-pub ruleset words = (number_of_simple_operator_name, number_of_standard_builtin_type, number_of_well_known_component, number_of_ref_qualifier, number_of_explicit_object_parameter)
 
 pub ruleset rows = (and_true, option_of_trees, option_of_numbers, list_of_trees, list_of_numbers)

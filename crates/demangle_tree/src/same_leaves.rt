@@ -309,7 +309,7 @@ impl PartialEq for Substitution {
 
     ghost laws = { on_per tree_of_substitution (partial_equiv_from_equiv same_equiv) };
 
-    #[tactic(auto, using(crate::proofs::Same::rows, crate::proofs::Same::words))]
+    #[tactic(auto, using(crate::proofs::Same::rows))]
     fn eq(&self, other: &Substitution) -> bool {
         match self {
             Substitution::BackReference(a) => match other {
@@ -317,7 +317,7 @@ impl PartialEq for Substitution {
                 _ => false,
             },
             Substitution::WellKnown(a) => match other {
-                Substitution::WellKnown(other_a) => *a as u8 == *other_a as u8,
+                Substitution::WellKnown(other_a) => a.number() == other_a.number(),
                 _ => false,
             },
         }
@@ -333,11 +333,11 @@ impl PartialEq for PrefixHandle {
 
     ghost laws = { on_per tree_of_prefix_handle (partial_equiv_from_equiv same_equiv) };
 
-    #[tactic(auto, using(crate::proofs::Same::rows, crate::proofs::Same::words))]
+    #[tactic(auto, using(crate::proofs::Same::rows))]
     fn eq(&self, other: &PrefixHandle) -> bool {
         match self {
             PrefixHandle::WellKnown(a) => match other {
-                PrefixHandle::WellKnown(other_a) => *a as u8 == *other_a as u8,
+                PrefixHandle::WellKnown(other_a) => a.number() == other_a.number(),
                 _ => false,
             },
             PrefixHandle::BackReference(a) => match other {
@@ -361,11 +361,11 @@ impl PartialEq for UnscopedTemplateNameHandle {
 
     ghost laws = { on_per tree_of_unscoped_template_name_handle (partial_equiv_from_equiv same_equiv) };
 
-    #[tactic(auto, using(crate::proofs::Same::rows, crate::proofs::Same::words))]
+    #[tactic(auto, using(crate::proofs::Same::rows))]
     fn eq(&self, other: &UnscopedTemplateNameHandle) -> bool {
         match self {
             UnscopedTemplateNameHandle::WellKnown(a) => match other {
-                UnscopedTemplateNameHandle::WellKnown(other_a) => *a as u8 == *other_a as u8,
+                UnscopedTemplateNameHandle::WellKnown(other_a) => a.number() == other_a.number(),
                 _ => false,
             },
             UnscopedTemplateNameHandle::BackReference(a) => match other {
@@ -389,11 +389,11 @@ impl PartialEq for TemplateTemplateParamHandle {
 
     ghost laws = { on_per tree_of_template_template_param_handle (partial_equiv_from_equiv same_equiv) };
 
-    #[tactic(auto, using(crate::proofs::Same::rows, crate::proofs::Same::words))]
+    #[tactic(auto, using(crate::proofs::Same::rows))]
     fn eq(&self, other: &TemplateTemplateParamHandle) -> bool {
         match self {
             TemplateTemplateParamHandle::WellKnown(a) => match other {
-                TemplateTemplateParamHandle::WellKnown(other_a) => *a as u8 == *other_a as u8,
+                TemplateTemplateParamHandle::WellKnown(other_a) => a.number() == other_a.number(),
                 _ => false,
             },
             TemplateTemplateParamHandle::BackReference(a) => match other {
@@ -413,11 +413,11 @@ impl PartialEq for UnresolvedTypeHandle {
 
     ghost laws = { on_per tree_of_unresolved_type_handle (partial_equiv_from_equiv same_equiv) };
 
-    #[tactic(auto, using(crate::proofs::Same::rows, crate::proofs::Same::words))]
+    #[tactic(auto, using(crate::proofs::Same::rows))]
     fn eq(&self, other: &UnresolvedTypeHandle) -> bool {
         match self {
             UnresolvedTypeHandle::WellKnown(a) => match other {
-                UnresolvedTypeHandle::WellKnown(other_a) => *a as u8 == *other_a as u8,
+                UnresolvedTypeHandle::WellKnown(other_a) => a.number() == other_a.number(),
                 _ => false,
             },
             UnresolvedTypeHandle::BackReference(a) => match other {
@@ -437,11 +437,11 @@ impl PartialEq for TypeHandle {
 
     ghost laws = { on_per tree_of_type_handle (partial_equiv_from_equiv same_equiv) };
 
-    #[tactic(auto, using(crate::proofs::Same::rows, crate::proofs::Same::words))]
+    #[tactic(auto, using(crate::proofs::Same::rows))]
     fn eq(&self, other: &TypeHandle) -> bool {
         match self {
             TypeHandle::WellKnown(a) => match other {
-                TypeHandle::WellKnown(other_a) => *a as u8 == *other_a as u8,
+                TypeHandle::WellKnown(other_a) => a.number() == other_a.number(),
                 _ => false,
             },
             TypeHandle::BackReference(a) => match other {
@@ -469,11 +469,11 @@ impl PartialEq for BuiltinType {
 
     ghost laws = { on_per tree_of_builtin_type (partial_equiv_from_equiv same_equiv) };
 
-    #[tactic(auto, using(crate::proofs::Same::rows, crate::proofs::Same::words))]
+    #[tactic(auto, using(crate::proofs::Same::rows))]
     fn eq(&self, other: &BuiltinType) -> bool {
         match self {
             BuiltinType::Standard(a) => match other {
-                BuiltinType::Standard(other_a) => *a as u8 == *other_a as u8,
+                BuiltinType::Standard(other_a) => a.number() == other_a.number(),
                 _ => false,
             },
             BuiltinType::Parametric(a) => match other {
@@ -552,11 +552,11 @@ impl PartialEq for OperatorName {
 
     ghost laws = { on_per tree_of_operator_name (partial_equiv_from_equiv same_equiv) };
 
-    #[tactic(auto, using(crate::proofs::Same::rows, crate::proofs::Same::words))]
+    #[tactic(auto, using(crate::proofs::Same::rows))]
     fn eq(&self, other: &OperatorName) -> bool {
         match self {
             OperatorName::Simple(a) => match other {
-                OperatorName::Simple(other_a) => *a as u8 == *other_a as u8,
+                OperatorName::Simple(other_a) => a.number() == other_a.number(),
                 _ => false,
             },
             OperatorName::Cast(a) => match other {
@@ -775,7 +775,7 @@ impl PartialEq for NestedName {
 
     ghost laws = { on_per tree_of_nested_name (partial_equiv_from_equiv same_equiv) };
 
-    #[tactic(auto, using(crate::proofs::Same::rows, crate::proofs::Same::words))]
+    #[tactic(auto, using(crate::proofs::Same::rows))]
     fn eq(&self, other: &NestedName) -> bool {
         match self {
             NestedName::Unqualified(a, b, c, d) => match other {
@@ -787,11 +787,11 @@ impl PartialEq for NestedName {
                 _ => false,
             },
             NestedName::UnqualifiedExplicitObject(a, b, c) => match other {
-                NestedName::UnqualifiedExplicitObject(other_a, other_b, other_c) => a == other_a && b == other_b && *c as u8 == *other_c as u8,
+                NestedName::UnqualifiedExplicitObject(other_a, other_b, other_c) => a == other_a && b == other_b && c.number() == other_c.number(),
                 _ => false,
             },
             NestedName::TemplateExplicitObject(a, b) => match other {
-                NestedName::TemplateExplicitObject(other_a, other_b) => a == other_a && *b as u8 == *other_b as u8,
+                NestedName::TemplateExplicitObject(other_a, other_b) => a == other_a && b.number() == other_b.number(),
                 _ => false,
             },
         }
@@ -802,13 +802,13 @@ impl Eq for NestedName {
     ghost laws = { on_equiv tree_of_nested_name same_equiv };
 }
 
-#[tactic(auto, using(crate::proofs::Same::rows, crate::proofs::Same::words))]
+#[tactic(auto, using(crate::proofs::Same::rows))]
 pub(crate) fn same_ref_qualifier(one: &Option<RefQualifier>, other: &Option<RefQualifier>) -> bool
     ensures { result ≡ same (tree_of_option tree_of_ref_qualifier one.now) (tree_of_option tree_of_ref_qualifier other.now) }
 {
     match one {
         Some(a) => match other {
-            Some(b) => *a as u8 == *b as u8,
+            Some(b) => a.number() == b.number(),
             None => false,
         },
         None => other.is_none(),

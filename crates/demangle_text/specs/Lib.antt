@@ -1,0 +1,7 @@
+pub mod Kind
+pub mod Spot
+pub mod Bytes
+pub mod Found
+pub mod Word
+pub mod Number
+pub mod Texts
