@@ -17,7 +17,16 @@ abbrev pub behind : {X : Type 0} → ℕ → Found X → Found X
 behind m (took n x) = took (m + n) x
 behind m (none c) = none c
 
+-- the value and how many bytes it took
+abbrev pub and_length : {X : Type 0} → Found X → Result (X × ℕ) Kind
+and_length (took n x) = Ok (x, n)
+and_length (none c) = Err (Unread c)
+
+-- the value and the place behind so many bytes
+abbrev pub placed : {X : Type 0} → Result (X × ℕ) Kind → Spot → Result (X × Spot) Kind
+placed (Ok x) p = Ok (x.0, skip x.1 p)
+placed (Err k) p = Err k
+
 -- the value and the place behind it
 abbrev pub and_rest : {X : Type 0} → Found X → Spot → Result (X × Spot) Kind
-and_rest (took n x) p = Ok (x, skip n p)
-and_rest (none c) p = Err (Unread c)
+and_rest x p = placed (and_length x) p

@@ -4,7 +4,7 @@ use Rattle.std.specs.declared.option.Option.{Option}
 use Rattle.std.specs.declared.option.Option.TheVariants as of_option
 use Rattle.std.specs.declared.boxed.Box.{Box}
 use Rattle.demangle_tree.specs.Core.{Tag, Core, Which, end, node, place, number, flag, chosen, ref, mark, ◌⊕◌, trees}
-use Rattle.demangle_vocab.specs.declared.words.SimpleOperatorName.{SimpleOperatorName}
+use Rattle.demangle_vocab.specs.declared.operator.SimpleOperatorName.{SimpleOperatorName}
 use Rattle.demangle_tree.specs.declared.leaves.TemplateParam.{TemplateParam}
 use Rattle.demangle_tree.specs.declared.leaves.Discriminator.{Discriminator}
 use Rattle.demangle_tree.specs.declared.leaves.ResourceName.{ResourceName}
@@ -59,8 +59,8 @@ use Rattle.demangle_tree.specs.declared.nodes.BaseUnresolvedName.TheBlock.{Row_o
 use Rattle.demangle_tree.specs.declared.nodes.BaseUnresolvedName.TheBlock.{back-Expression-New-2}
 use Rattle.demangle_tree.specs.declared.nodes.BaseUnresolvedName.TheBlock.{back-BaseUnresolvedName-Operator-1}
 use Rattle.demangle_tree.specs.declared.nodes.BaseUnresolvedName.TheBlock.{back-LocalName-Relative-1}
-use Rattle.demangle_tree.specs.declared.nodes.UnresolvedQualifierLevel.{roll-UnresolvedQualifierLevel, out-UnresolvedQualifierLevel, roll-out-UnresolvedQualifierLevel}
 use Rattle.demangle_tree.specs.declared.nodes.SimpleId.{roll-SimpleId, out-SimpleId, roll-out-SimpleId}
+use Rattle.demangle_tree.specs.declared.nodes.UnresolvedQualifierLevel.{roll-UnresolvedQualifierLevel, out-UnresolvedQualifierLevel, roll-out-UnresolvedQualifierLevel}
 
 rows_of_expression : (n : _) (row : Row_of-Expression n) → row_of_expression row ≡ trees tag_of_expression parts_of_expression (items-the_row-Expression n row)
 unfolding parts_of_mangled_name parts_of_encoding parts_of_global_ctor_dtor parts_of_name parts_of_template_arg parts_of_expression parts_of_unresolved_name parts_of_unresolved_qualifier_level parts_of_simple_id parts_of_base_unresolved_name parts_of_destructor_name parts_of_expr_primary parts_of_local_name parts_of_special_name parts_of_fold_expr row_of_expression row_of_template_arg row_of_unresolved_qualifier_level parts_of_held_initializer parts_of_held_template_args parts_of_held_name

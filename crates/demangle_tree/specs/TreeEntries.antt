@@ -5,7 +5,7 @@ use Rattle.std.specs.declared.option.Option.TheVariants as of_option
 use Rattle.std.specs.declared.vec.Vec.{Vec}
 use Rattle.std.specs.declared.alloc.Global.{Global}
 use Rattle.demangle_tree.specs.Core.{Tag, Core, Which, end, node, place, number, flag, chosen, ref, mark, ◌⊕◌, trees, numbers}
-use Rattle.demangle_vocab.specs.declared.words.RefQualifier.{RefQualifier}
+use Rattle.demangle_vocab.specs.declared.qualifier.RefQualifier.{RefQualifier}
 use Rattle.demangle_tree.specs.declared.entries.Decltype.{Decltype}
 use Rattle.demangle_tree.specs.declared.entries.Decltype.TheVariants as of_decltype
 use Rattle.demangle_tree.specs.declared.entries.Prefix.{Prefix}

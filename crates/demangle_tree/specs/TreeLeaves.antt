@@ -6,16 +6,15 @@ use Rattle.std.specs.declared.option.Option.TheVariants as of_option
 use Rattle.std.specs.declared.vec.Vec.{Vec}
 use Rattle.std.specs.declared.alloc.Global.{Global}
 use Rattle.demangle_tree.specs.Core.{Tag, Core, Which, end, node, place, number, flag, chosen, ref, mark, ◌⊕◌, trees, numbers}
-use Rattle.demangle_vocab.specs.declared.words.SimpleOperatorName.{SimpleOperatorName}
-use Rattle.demangle_vocab.specs.declared.words.SimpleOperatorName.TheVariants as of_simple_operator_name
-use Rattle.demangle_vocab.specs.declared.words.StandardBuiltinType.{StandardBuiltinType}
-use Rattle.demangle_vocab.specs.declared.words.StandardBuiltinType.TheVariants as of_standard_builtin_type
-use Rattle.demangle_vocab.specs.declared.words.WellKnownComponent.{WellKnownComponent}
-use Rattle.demangle_vocab.specs.declared.words.WellKnownComponent.TheVariants as of_well_known_component
-use Rattle.demangle_vocab.specs.declared.words.RefQualifier.{RefQualifier}
-use Rattle.demangle_vocab.specs.declared.words.RefQualifier.TheVariants as of_ref_qualifier
-use Rattle.demangle_vocab.specs.declared.words.ExplicitObjectParameter.{ExplicitObjectParameter}
-use Rattle.demangle_vocab.specs.declared.words.ExplicitObjectParameter.TheVariants as of_explicit_object_parameter
+use Rattle.demangle_vocab.specs.declared.operator.SimpleOperatorName.{SimpleOperatorName}
+use Rattle.demangle_vocab.specs.declared.builtin.StandardBuiltinType.{StandardBuiltinType}
+use Rattle.demangle_vocab.specs.declared.component.WellKnownComponent.{WellKnownComponent}
+use Rattle.demangle_vocab.specs.declared.qualifier.RefQualifier.{RefQualifier}
+use Rattle.demangle_vocab.specs.declared.qualifier.ExplicitObjectParameter.{ExplicitObjectParameter}
+use Rattle.demangle_vocab.specs.Operators.{number_of_operator}
+use Rattle.demangle_vocab.specs.Builtins.{number_of_builtin}
+use Rattle.demangle_vocab.specs.Components.{number_of_component}
+use Rattle.demangle_vocab.specs.Qualifiers.{number_of_ref_qualifier, number_of_explicit_object}
 use Rattle.demangle_tree.specs.declared.leaves.NonSubstitution.{NonSubstitution}
 use Rattle.demangle_tree.specs.declared.leaves.SeqId.{SeqId}
 use Rattle.demangle_tree.specs.declared.leaves.TemplateParam.{TemplateParam}
@@ -87,145 +86,21 @@ parts_of_option f (of_option.Some a) = f a
 abbrev pub tree_of_option : {A : Type 0} → (A → Core) → Option A → Core
 tree_of_option f x = node (tag_of_option x) (parts_of_option f x) end
 
--- ---- words: their numbers, and the tree of a word of each table
-abbrev pub word_of_simple_operator_name : SimpleOperatorName → ℕ
-word_of_simple_operator_name of_simple_operator_name.New = 0
-word_of_simple_operator_name of_simple_operator_name.NewArray = 1
-word_of_simple_operator_name of_simple_operator_name.Delete = 2
-word_of_simple_operator_name of_simple_operator_name.DeleteArray = 3
-word_of_simple_operator_name of_simple_operator_name.UnaryPlus = 4
-word_of_simple_operator_name of_simple_operator_name.Neg = 5
-word_of_simple_operator_name of_simple_operator_name.AddressOf = 6
-word_of_simple_operator_name of_simple_operator_name.Deref = 7
-word_of_simple_operator_name of_simple_operator_name.BitNot = 8
-word_of_simple_operator_name of_simple_operator_name.Add = 9
-word_of_simple_operator_name of_simple_operator_name.Sub = 10
-word_of_simple_operator_name of_simple_operator_name.Mul = 11
-word_of_simple_operator_name of_simple_operator_name.Div = 12
-word_of_simple_operator_name of_simple_operator_name.Rem = 13
-word_of_simple_operator_name of_simple_operator_name.BitAnd = 14
-word_of_simple_operator_name of_simple_operator_name.BitOr = 15
-word_of_simple_operator_name of_simple_operator_name.BitXor = 16
-word_of_simple_operator_name of_simple_operator_name.Assign = 17
-word_of_simple_operator_name of_simple_operator_name.AddAssign = 18
-word_of_simple_operator_name of_simple_operator_name.SubAssign = 19
-word_of_simple_operator_name of_simple_operator_name.MulAssign = 20
-word_of_simple_operator_name of_simple_operator_name.DivAssign = 21
-word_of_simple_operator_name of_simple_operator_name.RemAssign = 22
-word_of_simple_operator_name of_simple_operator_name.BitAndAssign = 23
-word_of_simple_operator_name of_simple_operator_name.BitOrAssign = 24
-word_of_simple_operator_name of_simple_operator_name.BitXorAssign = 25
-word_of_simple_operator_name of_simple_operator_name.Shl = 26
-word_of_simple_operator_name of_simple_operator_name.Shr = 27
-word_of_simple_operator_name of_simple_operator_name.ShlAssign = 28
-word_of_simple_operator_name of_simple_operator_name.ShrAssign = 29
-word_of_simple_operator_name of_simple_operator_name.Eq = 30
-word_of_simple_operator_name of_simple_operator_name.Ne = 31
-word_of_simple_operator_name of_simple_operator_name.Less = 32
-word_of_simple_operator_name of_simple_operator_name.Greater = 33
-word_of_simple_operator_name of_simple_operator_name.LessEq = 34
-word_of_simple_operator_name of_simple_operator_name.GreaterEq = 35
-word_of_simple_operator_name of_simple_operator_name.Not = 36
-word_of_simple_operator_name of_simple_operator_name.LogicalAnd = 37
-word_of_simple_operator_name of_simple_operator_name.LogicalOr = 38
-word_of_simple_operator_name of_simple_operator_name.PostInc = 39
-word_of_simple_operator_name of_simple_operator_name.PostDec = 40
-word_of_simple_operator_name of_simple_operator_name.Comma = 41
-word_of_simple_operator_name of_simple_operator_name.DerefMemberPtr = 42
-word_of_simple_operator_name of_simple_operator_name.DerefMember = 43
-word_of_simple_operator_name of_simple_operator_name.Call = 44
-word_of_simple_operator_name of_simple_operator_name.Index = 45
-word_of_simple_operator_name of_simple_operator_name.Question = 46
-word_of_simple_operator_name of_simple_operator_name.Spaceship = 47
-
+-- ---- words: the table, and the number of the word in it
 abbrev pub tree_of_simple_operator_name : SimpleOperatorName → Core
-tree_of_simple_operator_name x = chosen 0 (word_of_simple_operator_name x) end
-
-abbrev pub word_of_standard_builtin_type : StandardBuiltinType → ℕ
-word_of_standard_builtin_type of_standard_builtin_type.Void = 0
-word_of_standard_builtin_type of_standard_builtin_type.Wchar = 1
-word_of_standard_builtin_type of_standard_builtin_type.Bool = 2
-word_of_standard_builtin_type of_standard_builtin_type.Char = 3
-word_of_standard_builtin_type of_standard_builtin_type.SignedChar = 4
-word_of_standard_builtin_type of_standard_builtin_type.UnsignedChar = 5
-word_of_standard_builtin_type of_standard_builtin_type.Short = 6
-word_of_standard_builtin_type of_standard_builtin_type.UnsignedShort = 7
-word_of_standard_builtin_type of_standard_builtin_type.Int = 8
-word_of_standard_builtin_type of_standard_builtin_type.UnsignedInt = 9
-word_of_standard_builtin_type of_standard_builtin_type.Long = 10
-word_of_standard_builtin_type of_standard_builtin_type.UnsignedLong = 11
-word_of_standard_builtin_type of_standard_builtin_type.LongLong = 12
-word_of_standard_builtin_type of_standard_builtin_type.UnsignedLongLong = 13
-word_of_standard_builtin_type of_standard_builtin_type.Int128 = 14
-word_of_standard_builtin_type of_standard_builtin_type.Uint128 = 15
-word_of_standard_builtin_type of_standard_builtin_type.Float = 16
-word_of_standard_builtin_type of_standard_builtin_type.Double = 17
-word_of_standard_builtin_type of_standard_builtin_type.LongDouble = 18
-word_of_standard_builtin_type of_standard_builtin_type.Float128 = 19
-word_of_standard_builtin_type of_standard_builtin_type.Ellipsis = 20
-word_of_standard_builtin_type of_standard_builtin_type.DecimalFloat64 = 21
-word_of_standard_builtin_type of_standard_builtin_type.DecimalFloat128 = 22
-word_of_standard_builtin_type of_standard_builtin_type.DecimalFloat32 = 23
-word_of_standard_builtin_type of_standard_builtin_type.DecimalFloat16 = 24
-word_of_standard_builtin_type of_standard_builtin_type.BFloat16 = 25
-word_of_standard_builtin_type of_standard_builtin_type.Char32 = 26
-word_of_standard_builtin_type of_standard_builtin_type.Char16 = 27
-word_of_standard_builtin_type of_standard_builtin_type.Char8 = 28
-word_of_standard_builtin_type of_standard_builtin_type.Auto = 29
-word_of_standard_builtin_type of_standard_builtin_type.Decltype = 30
-word_of_standard_builtin_type of_standard_builtin_type.Nullptr = 31
-word_of_standard_builtin_type of_standard_builtin_type.AccumShort = 32
-word_of_standard_builtin_type of_standard_builtin_type.AccumUShort = 33
-word_of_standard_builtin_type of_standard_builtin_type.Accum = 34
-word_of_standard_builtin_type of_standard_builtin_type.AccumUnsigned = 35
-word_of_standard_builtin_type of_standard_builtin_type.AccumLong = 36
-word_of_standard_builtin_type of_standard_builtin_type.AccumULong = 37
-word_of_standard_builtin_type of_standard_builtin_type.FractShort = 38
-word_of_standard_builtin_type of_standard_builtin_type.FractUShort = 39
-word_of_standard_builtin_type of_standard_builtin_type.Fract = 40
-word_of_standard_builtin_type of_standard_builtin_type.FractUnsigned = 41
-word_of_standard_builtin_type of_standard_builtin_type.FractLong = 42
-word_of_standard_builtin_type of_standard_builtin_type.FractULong = 43
-word_of_standard_builtin_type of_standard_builtin_type.SatAccumShort = 44
-word_of_standard_builtin_type of_standard_builtin_type.SatAccumUShort = 45
-word_of_standard_builtin_type of_standard_builtin_type.SatAccum = 46
-word_of_standard_builtin_type of_standard_builtin_type.SatAccumUnsigned = 47
-word_of_standard_builtin_type of_standard_builtin_type.SatAccumLong = 48
-word_of_standard_builtin_type of_standard_builtin_type.SatAccumULong = 49
-word_of_standard_builtin_type of_standard_builtin_type.SatFractShort = 50
-word_of_standard_builtin_type of_standard_builtin_type.SatFractUShort = 51
-word_of_standard_builtin_type of_standard_builtin_type.SatFract = 52
-word_of_standard_builtin_type of_standard_builtin_type.SatFractUnsigned = 53
-word_of_standard_builtin_type of_standard_builtin_type.SatFractLong = 54
-word_of_standard_builtin_type of_standard_builtin_type.SatFractULong = 55
+tree_of_simple_operator_name x = chosen 0 (number_of_operator x) end
 
 abbrev pub tree_of_standard_builtin_type : StandardBuiltinType → Core
-tree_of_standard_builtin_type x = chosen 1 (word_of_standard_builtin_type x) end
-
-abbrev pub word_of_well_known_component : WellKnownComponent → ℕ
-word_of_well_known_component of_well_known_component.Std = 0
-word_of_well_known_component of_well_known_component.StdAllocator = 1
-word_of_well_known_component of_well_known_component.StdString1 = 2
-word_of_well_known_component of_well_known_component.StdString2 = 3
-word_of_well_known_component of_well_known_component.StdIstream = 4
-word_of_well_known_component of_well_known_component.StdOstream = 5
-word_of_well_known_component of_well_known_component.StdIostream = 6
+tree_of_standard_builtin_type x = chosen 1 (number_of_builtin x) end
 
 abbrev pub tree_of_well_known_component : WellKnownComponent → Core
-tree_of_well_known_component x = chosen 2 (word_of_well_known_component x) end
-
-abbrev pub word_of_ref_qualifier : RefQualifier → ℕ
-word_of_ref_qualifier of_ref_qualifier.LValueRef = 0
-word_of_ref_qualifier of_ref_qualifier.RValueRef = 1
+tree_of_well_known_component x = chosen 2 (number_of_component x) end
 
 abbrev pub tree_of_ref_qualifier : RefQualifier → Core
-tree_of_ref_qualifier x = chosen 3 (word_of_ref_qualifier x) end
-
-abbrev pub word_of_explicit_object_parameter : ExplicitObjectParameter → ℕ
-word_of_explicit_object_parameter of_explicit_object_parameter.ExplicitObjectParameter = 0
+tree_of_ref_qualifier x = chosen 3 (number_of_ref_qualifier x) end
 
 abbrev pub tree_of_explicit_object_parameter : ExplicitObjectParameter → Core
-tree_of_explicit_object_parameter x = chosen 4 (word_of_explicit_object_parameter x) end
+tree_of_explicit_object_parameter x = chosen 4 (number_of_explicit_object x) end
 
 -- ---- nodes
 abbrev pub tag_of_non_substitution : NonSubstitution → Tag

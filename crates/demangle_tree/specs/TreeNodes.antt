@@ -7,7 +7,7 @@ use Rattle.std.specs.declared.vec.Vec.{Vec}
 use Rattle.std.specs.declared.boxed.Box.{Box}
 use Rattle.std.specs.declared.alloc.Global.{Global}
 use Rattle.demangle_tree.specs.Core.{Tag, Core, Which, end, node, place, number, flag, chosen, ref, mark, ◌⊕◌, trees, numbers}
-use Rattle.demangle_vocab.specs.declared.words.SimpleOperatorName.{SimpleOperatorName}
+use Rattle.demangle_vocab.specs.declared.operator.SimpleOperatorName.{SimpleOperatorName}
 use Rattle.demangle_tree.specs.declared.leaves.TemplateParam.{TemplateParam}
 use Rattle.demangle_tree.specs.declared.leaves.Discriminator.{Discriminator}
 use Rattle.demangle_tree.specs.declared.leaves.ResourceName.{ResourceName}

@@ -1,0 +1,5 @@
+pub mod Table
+pub mod Operators
+pub mod Builtins
+pub mod Components
+pub mod Qualifiers

@@ -1,6 +1,15 @@
-//! Words (stand-in).
+//! The words of the grammar that stand in tables: operators, builtin types, abbreviated components, ref-qualifiers and the mark of
+//! an explicit object parameter.
 #![tactic(auto)]
 
-mod words;
+mod apart;
+mod builtin;
+mod component;
+mod operator;
+mod qualifier;
 
-pub use words::{ExplicitObjectParameter, RefQualifier, SimpleOperatorName, StandardBuiltinType, WellKnownComponent};
+pub use apart::no_word_is_a_prefix;
+pub use builtin::StandardBuiltinType;
+pub use component::WellKnownComponent;
+pub use operator::SimpleOperatorName;
+pub use qualifier::{ExplicitObjectParameter, RefQualifier};
