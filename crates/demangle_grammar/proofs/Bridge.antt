@@ -10,7 +10,7 @@ use Rattle.demangle_text.specs.Found.{Found, took, none, mapped, and_rest}
 use Rattle.demangle_text.specs.Bytes.{span, is_digit}
 use Rattle.demangle_text.specs.Word.{starts, missing_word, word_at}
 use Rattle.demangle_text.specs.Number.{natural_at, number_at, natural_from, number_from}
-use Rattle.demangle_grammar.specs.Words.{table_at, table_from}
+use Rattle.demangle_vocab.specs.Table.{table_at, word_read, table_from}
 use Rattle.demangle_grammar.specs.Table.{Table, added, size}
 use Rattle.demangle_grammar.specs.Rule.{Given, Class, Row, Eat, Leaf, Rule}
 use Rattle.demangle_grammar.specs.Tree.{cores, How, shape, component_of, template_entry, taken_of, reference, Entry, count, count_if, same}
@@ -215,7 +215,7 @@ nothing_taken s = ap (λ m. let h : Here = record { spot = record { index = m; l
 
 eat_sees : (x : Eat) (s : State) (acc : List Core) (go : State → Core → Answer Core) (go' : Here → List Core → Out) → Same go go'
     → Sees (found cores answer go_on (find x s.at s.rest) (λ n v. go (ahead_by n s) (joined acc ⊕ v))) (eaten x (seen s) acc go')
-unfolding eat_at number_from natural_from table_from
+unfolding eat_at number_from natural_from table_from word_read
 eat_sees (Eat.give g) s acc go go' h = same_at go go' h (ahead_by 0 s) (joined acc ⊕ given g) (acc ++ given g ∷ []) (seen s) (snoc acc (given g)) (nothing_taken s)
 eat_sees Eat.here s acc go go' h = same_at go go' h (ahead_by 0 s) (joined acc ⊕ mark s.at end) (acc ++ mark s.at end ∷ []) (seen s) (snoc acc (mark s.at end)) (nothing_taken s)
 eat_sees (Eat.run c) s acc go go' h = found_sees s acc go go' h (find (Eat.run c) s.at s.rest) (run_at_within c s.at s.rest)

@@ -20,7 +20,7 @@ use Rattle.demangle_text.specs.Kind.{Cause, Text}
 use Rattle.demangle_text.specs.Found.{Found, took, none, mapped}
 use Rattle.demangle_text.specs.Bytes.{is_digit, span}
 use Rattle.demangle_grammar.proofs.Numbers.{span_all, NaturalAt, natural_fits, NumberAt, WordAt, word_fits, number_fits}
-use Rattle.demangle_grammar.specs.Words.{table_at}
+use Rattle.demangle_vocab.specs.Table.{table_at}
 
 -- ---- what is found
 abbrev Is : Eat → ℕ → List ℕ → Found Core → Type 0

@@ -9,7 +9,7 @@ use Rattle.demangle_grammar.specs.Reading.{State, Answer, Yes, No, Deep, stepped
 use Rattle.demangle_grammar.proofs.Steps.{step_then}
 use Rattle.demangle_grammar.specs.First.{takes_row, takes_leaf, takes_by, begins_leaf, begins_by, first, idle, idle_by, stops, unless, zero_if, Misses}
 use Rattle.demangle_grammar.specs.Laws.{IsRefused, IsIdle}
-use Rattle.demangle_grammar.proofs.Ranks.{rank, takes, guarded, all_agree, takes_is, idle_is, first_is}
+use Rattle.demangle_grammar.proofs.Ranks.{rank, takes, guarded, all_agree, takes_is, idle_is, first_is, rank_small}
 use Rattle.demangle_grammar.proofs.Truth.{both_true, either, or_false}
 use Rattle.demangle_grammar.proofs.Misses.{Fails, stop_fails}
 use Rattle.demangle_grammar.proofs.Limits.{whole}
@@ -305,6 +305,5 @@ refused s Deep o = absurd o
 
 pub is_idle : IsIdle
 is_idle n r c s t m =
-    let small : rank r < 10 = ltb-true (rank r) 10 (both_true _ _ (both_true _ _ (all_agree r)).1).1 in
-    let h = row_idle (enough s.rest) r c s nil (omega (arith, small, enough_is s.rest)) (is_not_turn r t) m in
+    let h = row_idle (enough s.rest) r c s nil (omega (arith, rank_small r, enough_is s.rest)) (is_not_turn r t) m in
     (subst IsRefused (sym (whole r c s).1) (refused s _ (subst (λ z. Outcome z s (measure_from (enough s.rest) r c s nil).answer) t h.outcome)), ap (λ z. n + z) h.levels)

@@ -13,7 +13,7 @@ use Rattle.demangle_text.specs.Found.{Found, took, none}
 use Rattle.demangle_text.specs.Bytes.{is_digit}
 use Rattle.demangle_grammar.proofs.Numbers.{Missing, span_zero, mapped_missing, number_missing, word_missing}
 use Rattle.demangle_grammar.proofs.Truth.{or_false}
-use Rattle.demangle_grammar.specs.Words.{table_at}
+use Rattle.demangle_vocab.specs.Table.{table_at}
 
 abbrev pub Fails : Answer Tree → Type 0
 Fails (No false k) = Unit {0}
@@ -49,7 +49,7 @@ finds_none (Eat.byte c) t at (b ∷ bs) e = test_missing (is_in c b) _ _ e
 finds_none Eat.digit t at [] e = tt
 finds_none Eat.digit t at (b ∷ bs) e = test_missing (is_digit b) _ _ e
 finds_none (Eat.numeral base signs) t at bs e = mapped_missing numbered (number_at base signs bs) (number_missing base signs bs e)
-finds_none (Eat.table n ws) t at bs e = mapped_missing (worded n) (table_at ws bs) (word_missing ws bs (heads_miss ws bs e))
+finds_none (Eat.table n ws) t at bs e = mapped_missing (worded n) (table_at ws bs) (word_missing ws bs t (heads_miss ws bs e))
 finds_none (Eat.give c) t at bs e = absurd (cc)
 finds_none Eat.here t at bs e = absurd (cc)
 

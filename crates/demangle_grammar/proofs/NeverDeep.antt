@@ -14,7 +14,7 @@ use Rattle.demangle_grammar.proofs.Kept.{keeps}
 use Rattle.demangle_grammar.proofs.Derived.{Leads, leaf_leads, alt_leads, many_leads, turns_lead, derives, reads}
 use Rattle.demangle_grammar.proofs.Steps.{step_then}
 use Rattle.demangle_grammar.proofs.Truth.{both_true}
-use Rattle.demangle_grammar.proofs.Ranks.{rank, takes, guarded, all_agree}
+use Rattle.demangle_grammar.proofs.Ranks.{rank, takes, guarded, all_agree, rank_small}
 use Rattle.demangle_grammar.specs.First.{takes_row, takes_leaf}
 use Rattle.demangle_grammar.proofs.Takes.{Takes, took_byte, row_takes, naturals_take}
 use Rattle.demangle_text.specs.Word.{starts, missing_word}
@@ -68,7 +68,7 @@ after_byte left n false s t l r = omega arith
 
 -- the room is enough to enter a row
 enters : (left n : ℕ) (f : Bool) (s : State) (r : Row) → (f || nat_lt (rank r) n) ≡ true → Room left n f s → 10 * length s.rest + rank r < left
-enters left n true s r e m = omega (arith, ltb-true (rank r) 10 (both_true _ _ (both_true _ _ (all_agree r)).1).1)
+enters left n true s r e m = omega (arith, rank_small r)
 enters left n false s r e m = omega (arith, ltb-true (rank r) n e)
 
 so_ends : (b : Bool) (k : Cause) (go : Unit {0} → Answer Tree) → Ended (go tt) → Ended (where_so trees answer go_on b k go)
@@ -213,4 +213,4 @@ not_deep : (x : Answer Tree) → Ended x → x ≢ Deep
 not_deep x e p = subst Ended p e
 
 pub all_ends : Ends
-all_ends r c s = not_deep _ (row_ends (enough s.rest) r c s nil (omega (arith, enough_is s.rest, ltb-true (rank r) 10 (both_true _ _ (both_true _ _ (all_agree r)).1).1)))
+all_ends r c s = not_deep _ (row_ends (enough s.rest) r c s nil (omega (arith, enough_is s.rest, rank_small r)))

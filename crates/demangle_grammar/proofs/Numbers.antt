@@ -1,5 +1,5 @@
 -- Numbers and words at the front: how many bytes they take, what they are, and when there is none.
-use Rattle.std.specs.Prelude.{◌≡◌, ℕ, suc, ◌+◌, ◌^◌, ◌≤◌, ◌<◌, Bool, true, false, if◌then◌else◌, ◌&&◌, List, [], ◌∷◌, length, take, drop, nat_lt, ◌==◌, ℤ, pos, neg_ℤ}
+use Rattle.std.specs.Prelude.{Option, Some, None, ◌≡◌, ℕ, suc, ◌+◌, ◌^◌, ◌≤◌, ◌<◌, Bool, true, false, if◌then◌else◌, ◌&&◌, List, [], ◌∷◌, length, take, drop, nat_lt, ◌==◌, ℤ, pos, neg_ℤ}
 use Rattle.std.proofs.Common.{refl, subst, sym, ap, ◌∙◌, arith, length-append, inl, inr}
 use Rattle.std.proofs.lemmas.List.{take-append-drop}
 use Rattle.std.proofs.lemmas.Bool.{ltb-true, eqb-true}
@@ -8,7 +8,7 @@ use Rattle.demangle_text.specs.Found.{Found, took, none, mapped, behind}
 use Rattle.demangle_text.specs.Bytes.{span}
 use Rattle.demangle_text.specs.Word.{starts}
 use Rattle.demangle_text.specs.Number.{is_digit_in, leads_with_zero, value_of, natural_of, natural_at, number_at, negative, run_of}
-use Rattle.demangle_grammar.specs.Words.{no_word, word_of, table_at}
+use Rattle.demangle_vocab.specs.Table.{no_word, word_in, word_or, table_at}
 use Rattle.demangle_grammar.specs.Rule.{Eat, Leaf}
 use Rattle.demangle_grammar.specs.Fits.{AllOf, IsSome, IsNumber, IsNumeral, IsWordAt}
 use Rattle.demangle_grammar.specs.First.{no_empty, heads, begins_leaf, Misses}
@@ -117,20 +117,19 @@ words_left [] ws e = absurd (cc)
 words_left (c ∷ w) ws e = e
 
 table_is : (k : ℕ) (ws vs : List (List ℕ)) (cause : Cause) (bs : List ℕ) → ((i : ℕ) (xs : List ℕ) → IsWordAt i ws xs → IsWordAt (i + k) vs xs) → (no_empty vs ≡ true → no_empty ws ≡ true)
-    → WordAt vs bs (word_of k ws cause bs)
+    → WordAt vs bs (word_or (word_in k ws bs) cause)
 table_is k [] vs cause bs h g = tt
 table_is k (w ∷ ws) vs cause bs h g =
     by (starts w bs) refl (table_is (suc k) ws vs cause bs (λ i xs q. subst (λ n. IsWordAt n vs xs) (let e : suc i + k ≡ i + suc k = omega arith in e) (h (suc i) xs q)) (λ e. words_left w ws (g e)))
   where
-    by : (y : Bool) → starts w bs ≡ y → WordAt vs bs (word_of (suc k) ws cause bs) → WordAt vs bs (if y then took (length w) k else word_of (suc k) ws cause bs)
+    by : (y : Bool) → starts w bs ≡ y → WordAt vs bs (word_or (word_in (suc k) ws bs) cause) → WordAt vs bs (word_or (if y then Some (k, length w) else word_in (suc k) ws bs) cause)
     by true e r =
         let l : length (take (length w) bs) ≡ length w = ap length (starts_so w bs e) in
         (l, subst (λ n. IsWordAt n vs (take (length w) bs)) (zero_plus k) (h 0 (take (length w) bs) (starts_so w bs e)), λ q. fewer (length w) bs l (word_long w ws (g q)))
     by false e r = r
 
 pub word_fits : (ws : List (List ℕ)) (bs : List ℕ) → WordAt ws bs (table_at ws bs)
-word_fits ws [] = tt
-word_fits ws (b ∷ bs) = table_is 0 ws ws (no_word ws (b ∷ bs)) (b ∷ bs) (λ i xs q. subst (λ n. IsWordAt n ws xs) (plus_zero i) q) (λ e. e)
+word_fits ws bs = table_is 0 ws ws (no_word ws bs) bs (λ i xs q. subst (λ n. IsWordAt n ws xs) (plus_zero i) q) (λ e. e)
 
 -- ---- where there is none
 abbrev pub Missing : {A : Type 0} → Found A → Type 0
@@ -154,15 +153,23 @@ number_missing base true (b ∷ bs) e = by (b == 110) (or_false _ _ e).0
     by true p = absurd (cc)
     by false p = mapped_missing pos (natural_at base (b ∷ bs)) (natural_missing base (b ∷ bs) (or_false _ _ e).1)
 
-table_missing : (k : ℕ) (ws : List (List ℕ)) (cause : Cause) (b : ℕ) (bs : List ℕ) → heads ws b ≡ false → Missing (word_of k ws cause (b ∷ bs))
-table_missing k [] cause b bs e = tt
-table_missing k ([] ∷ ws) cause b bs e = absurd (cc)
-table_missing k ((c ∷ w) ∷ ws) cause b bs e = by (c == b) (or_false _ _ e).0 (table_missing (suc k) ws cause b bs (or_false _ _ e).1)
+abbrev IsNone : Option (ℕ × ℕ) → Type 0
+IsNone None = Unit {0}
+IsNone (Some x) = ⊥
+
+none_in : (k : ℕ) (ws : List (List ℕ)) (bs : List ℕ) → no_empty ws ≡ true → Misses (heads ws) bs → IsNone (word_in k ws bs)
+none_in k [] bs t e = tt
+none_in k ([] ∷ ws) bs t e = absurd (cc)
+none_in k ((c ∷ w) ∷ ws) [] t e = none_in (suc k) ws [] t tt
+none_in k ((c ∷ w) ∷ ws) (b ∷ bs) t e = by (c == b) (or_false _ _ e).0 (none_in (suc k) ws (b ∷ bs) t (or_false _ _ e).1)
   where
-    by : (z : Bool) → z ≡ false → Missing (word_of (suc k) ws cause (b ∷ bs)) → Missing (if z && starts w bs then took (suc (length w)) k else word_of (suc k) ws cause (b ∷ bs))
+    by : (z : Bool) → z ≡ false → IsNone (word_in (suc k) ws (b ∷ bs)) → IsNone (if z && starts w bs then Some (k, length (c ∷ w)) else word_in (suc k) ws (b ∷ bs))
     by true p h = absurd (cc)
     by false p h = h
 
-pub word_missing : (ws : List (List ℕ)) (bs : List ℕ) → Misses (heads ws) bs → Missing (table_at ws bs)
-word_missing ws [] e = tt
-word_missing ws (b ∷ bs) e = table_missing 0 ws (no_word ws (b ∷ bs)) b bs e
+pub word_missing : (ws : List (List ℕ)) (bs : List ℕ) → no_empty ws ≡ true → Misses (heads ws) bs → Missing (table_at ws bs)
+word_missing ws bs t e = by (word_in 0 ws bs) (none_in 0 ws bs t e)
+  where
+    by : (x : Option (ℕ × ℕ)) → IsNone x → Missing (word_or x (no_word ws bs))
+    by None h = tt
+    by (Some x) h = h

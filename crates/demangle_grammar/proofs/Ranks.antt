@@ -1,6 +1,8 @@
 -- Ranks of the rows: a row that can be entered before a byte was taken has a smaller one. Checked below by computation.
-use Rattle.std.specs.Prelude.{◌≡◌, ℕ, suc, Bool, true, false, ◌&&◌, ◌||◌, not, nat_lt}
+use Rattle.std.specs.Prelude.{◌<◌, ◌≡◌, ℕ, suc, Bool, true, false, ◌&&◌, ◌||◌, not, nat_lt}
 use Rattle.std.proofs.Common.{refl}
+use Rattle.std.proofs.lemmas.Bool.{ltb-true}
+use Rattle.demangle_grammar.proofs.Truth.{both_true}
 use Rattle.demangle_grammar.specs.Rule.{Row, Rule}
 use Rattle.demangle_grammar.specs.Rows.{rule}
 use Rattle.demangle_grammar.specs.First.{takes_leaf, takes_by, takes_in, takes_row, first_in, first, begins_by, idle, idle_in, idle_by}
@@ -64,6 +66,13 @@ pub all_agree : (r : Row) → agrees r ≡ true
 unfolding rule takes_in
 all_agree Row.number = refl
 all_agree _ = refl
+
+pub rank_small : (r : Row) → rank r < 10
+rank_small r =
+    let a : (guarded (rank r) false (rule r) && ((not (takes_row r) || takes (rule r)) && nat_lt (rank r) 10)) ≡ true = all_agree r in
+    let b = both_true (guarded (rank r) false (rule r)) ((not (takes_row r) || takes (rule r)) && nat_lt (rank r) 10) a in
+    let c = both_true (not (takes_row r) || takes (rule r)) (nat_lt (rank r) 10) b.1 in
+    ltb-true (rank r) 10 c.1
 
 pub takes_is : (r : Row) → takes_row r ≡ takes_by takes_row (rule r)
 unfolding rule takes_in

@@ -1,9 +1,9 @@
 -- What holds of each reading. A row is read from a state, which holds the index, the bytes that are left and the entries of
 -- both lists so far; `nil` says that no parts were read before it.
-use Rattle.std.specs.Prelude.{◌≡◌, ◌≢◌, ℕ, suc, ◌+◌, ◌-◌, ◌<◌, ◌≤◌, ◌↔◌, Bool, true, List, [], ◌++◌, length}
-use Rattle.demangle_tree.specs.Core.{Core}
+use Rattle.std.specs.Prelude.{◌≡◌, ◌≢◌, ℕ, suc, false, ◌∷◌, codes, ◌+◌, ◌-◌, ◌<◌, ◌≤◌, ◌↔◌, Bool, true, List, [], ◌++◌, length}
+use Rattle.demangle_tree.specs.Core.{Core, end, node, place, ◌⊕◌, Tag, N, U}
 use Rattle.demangle_grammar.specs.Rule.{Row}
-use Rattle.demangle_grammar.specs.Tree.{Tree, trees, cores, core, nil, spell, components, Sound, RefersTo, ReferBack}
+use Rattle.demangle_grammar.specs.Tree.{Entry, Tree, trees, cores, reference, core, nil, spell, components, Sound, RefersTo, ReferBack}
 use Rattle.demangle_grammar.specs.Rows.{rule}
 use Rattle.demangle_grammar.specs.Reading.{State, Answer, Yes, No, Deep, read_from, read_all, levels_of}
 use Rattle.demangle_grammar.specs.Fits.{Fits}
@@ -41,6 +41,41 @@ IsSound = (left : ℕ) (row : Row) (conv : Bool) (s t : State) (tree : Tree) →
 abbrev pub RefersBack : Type 0
 RefersBack = (left : ℕ) (row : Row) (conv : Bool) (s t : State) (tree : Tree) → Reads left row conv s t tree → ReferBack [] s.entries →
     ReferBack [] t.entries × RefersTo t.entries (core tree)
+
+-- ---- two names
+-- from the first of these bytes, with no entries
+abbrev pub from : List ℕ → State
+from bytes = record { at = 0; rest = bytes; entries = [] }
+
+abbrev pub components_read : Answer Tree → List Entry
+components_read (Yes s tree) = components tree
+components_read _ = []
+
+-- a plain source name whose bytes stand from one index up to another
+abbrev pub source_name : (start stop : ℕ) → Core
+source_name i j = node Tag.UnqualifiedNameSource (node Tag.SourceName (node Tag.Identifier (place i j end) end) (node Tag.AbiTags (node Tag.Several end end) end)) end
+
+abbrev pub class_type : Core → Core
+class_type name = node Tag.SubstitutableTypeNode (node Tag.TypeNodeClassEnum (node Tag.ClassEnumTypeNamed (node Tag.NameUnscoped (node Tag.UnscopedNameUnqualified name end) end) end) end) end
+
+abbrev pub pointer : Core → Core
+pointer to = node Tag.SubstitutableTypeNode (node Tag.TypeNodePointerTo to end) end
+
+abbrev pub first_prefix : Core → Core
+first_prefix name = node Tag.SubstitutablePrefix (node Tag.PrefixUnqualified name end) end
+
+abbrev pub nested_prefix : (prefix name : Core) → Core
+nested_prefix p name = node Tag.SubstitutablePrefix (node Tag.PrefixNested (p ⊕ name) end) end
+
+-- The components of the tree of `P1a` are the class type `a` and then the pointer to it, both in the first list.
+abbrev pub CompletesPointer : Type 0
+CompletesPointer = components_read (read_all Row.type_handle false (from (codes "P1a")))
+    ≡ record { which = N; tree = class_type (source_name 2 3) } ∷ record { which = N; tree = pointer (reference N 0) } ∷ []
+
+-- Those of `_ZN1a1bEv` are the prefix `a` in the first list, and `a::b` in the second.
+abbrev pub CompletesPrefixes : Type 0
+CompletesPrefixes = components_read (read_all Row.mangled_name false (from (codes "_ZN1a1bEv")))
+    ≡ record { which = N; tree = first_prefix (source_name 4 5) } ∷ record { which = U; tree = nested_prefix (reference N 0) (source_name 6 7) } ∷ []
 
 -- ---- limits
 -- With no limit a reading isn't Deep.

@@ -6,7 +6,8 @@ use Rattle.demangle_text.specs.Found.{Found, took, none, mapped}
 use Rattle.demangle_text.specs.Bytes.{is_digit, is_capital, is_small, span}
 use Rattle.demangle_text.specs.Word.{starts, missing_word}
 use Rattle.demangle_text.specs.Number.{number_at, natural_at}
-use Rattle.demangle_grammar.specs.Words.{arity_of, table_at}
+use Rattle.demangle_vocab.specs.Table.{table_at, more_at}
+use Rattle.demangle_vocab.specs.Operators.{operators}
 use Rattle.demangle_grammar.specs.Rule.{Class, Row, Eat, Cond, Given, Mark, Leaf, Rule}
 use Rattle.demangle_grammar.specs.Tree.{Entry, same, count, Tree, How, nil, component_of, template_entry, Parts, trees}
 use Rattle.demangle_grammar.specs.Rows.{rule}
@@ -114,10 +115,10 @@ is_ten_or_more _ = false
 
 -- how many operands an operator takes: a word as the table says, a literal operator one, a vendor's as its digit says
 abbrev pub arity_in : Core → ℕ
-arity_in (node Tag.OperatorNameSimple (chosen t k n) m) = arity_of k
+arity_in (node Tag.OperatorNameSimple (chosen t k n) m) = more_at 0 operators k
 arity_in (node Tag.OperatorNameLiteral c m) = 1
 arity_in (node Tag.OperatorNameVendorExtension (number (pos k) n) m) = k
-arity_in (chosen t k n) = arity_of k
+arity_in (chosen t k n) = more_at 0 operators k
 arity_in _ = 0
 
 abbrev pub holds : Cond → List ℕ → Core → Bool

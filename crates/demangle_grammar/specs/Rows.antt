@@ -5,7 +5,10 @@ use Rattle.std.specs.Prelude.{true, false, [], ◌∷◌, codes}
 use Prim.Native.String.{String}
 use Rattle.demangle_tree.specs.Core.{Tag}
 use Rattle.demangle_grammar.specs.Rule.{Class, Row, Eat, Cond, Make, Mark, Given, Leaf, Rule}
-use Rattle.demangle_grammar.specs.Words.{operator_words, builtin_words, well_known_words, ref_words, object_words}
+use Rattle.demangle_vocab.specs.Operators.{operator_words}
+use Rattle.demangle_vocab.specs.Builtins.{builtin_words}
+use Rattle.demangle_vocab.specs.Components.{component_words}
+use Rattle.demangle_vocab.specs.Qualifiers.{ref_qualifier_words, explicit_object_words}
 use Rattle.demangle_grammar.specs.Items.{Item, ◌·◌, ◌//◌, w, eat, these, num10, give, need, next, not_next, more, fail, nothing, commit, r, t, e, sized, apart, make, made, present, absent, opt, flagged, vec, vec1, index, plus, type_component, prefix_component, template_component, unresolved_component}
 
 -- ---- prefixes, in parts
@@ -145,12 +148,16 @@ members k =
     // need (Cond.ahead (codes "fl" ∷ codes "fr" ∷ codes "fR" ∷ [])) · commit · r Row.fold_expr · made Tag.ExpressionFold
     // need (Cond.ahead_no_digit (codes "fL")) · commit · r Row.fold_expr · made Tag.ExpressionFold) k
 
+-- New and delete count no level of their own. No mark stands behind their words, since what fails in them is tried again as an
+-- operator of the same word and its operands.
 abbrev pub new_of : String → Tag → Item
-new_of s x k = (w s · commit · vec e · w "_" · t · (w "E" · commit · absent // present (r Row.initializer)) · made x) k
+new_of s x k = (w s · vec e · w "_" · t · (w "E" · commit · absent // present (r Row.initializer)) · made x) k
 
--- new and delete, which count no level of their own
+abbrev pub delete_of : String → Tag → Item
+delete_of s x k = (w s · e · made x) k
+
 abbrev pub global : Tag → Tag → Tag → Tag → Item
-global a b c d k = (more 2 · (new_of "nw" a // new_of "na" b // of_expression "dl" c // of_expression "da" d // fail)) k
+global a b c d k = (more 2 · (new_of "nw" a // new_of "na" b // delete_of "dl" c // delete_of "da" d)) k
 
 -- an operator and as many operands as it takes, which count no level of their own
 abbrev pub operators : Item
@@ -193,11 +200,11 @@ rule Row.simple_operator_name = eat (Eat.table 0 operator_words) Rule.done
 -- <builtin-type> ::= v | w | b | .. | Dn: a word of the table of builtin types (5.1.5.2)
 rule Row.standard_builtin_type = eat (Eat.table 1 builtin_words) Rule.done
 -- <substitution> ::= St | Sa | Sb | Ss | Si | So | Sd (5.1.10)
-rule Row.well_known_component = eat (Eat.table 2 well_known_words) Rule.done
+rule Row.well_known_component = eat (Eat.table 2 component_words) Rule.done
 -- <ref-qualifier> ::= R | O (5.1.2)
-rule Row.ref_qualifier = eat (Eat.table 3 ref_words) Rule.done
+rule Row.ref_qualifier = eat (Eat.table 3 ref_qualifier_words) Rule.done
 -- H, before the prefix of a function with an explicit object parameter (5.1.2)
-rule Row.explicit_object_parameter = eat (Eat.table 4 object_words) Rule.done
+rule Row.explicit_object_parameter = eat (Eat.table 4 explicit_object_words) Rule.done
 -- <number> ::= [n] <non-negative decimal integer> (5.1.2)
 rule Row.number = eat (Eat.numeral 10 true) Rule.done
 -- <seq-id> ::= <0-9A-Z>+ (5.1.10)
