@@ -1,10 +1,10 @@
 -- The first bytes of each row, and how deep it goes where the next byte is another. Written by tools/conformance.py.
-use Rattle.std.specs.Prelude.{◌≡◌, true, false, ◌∷◌, []}
+use Rattle.std.specs.Prelude.{true, false, ◌∷◌, []}
 use Rattle.std.proofs.Common.{refl}
 use Rattle.demangle_grammar.specs.Rule.{Row}
 use Rattle.demangle_grammar.specs.Rows.{rule}
-use Rattle.demangle_grammar.specs.First.{takes_in, first_in, idle_in, first, idle}
-use Rattle.demangle_grammar.proofs.Conforms.{bytes_of, Begins}
+use Rattle.demangle_grammar.specs.First.{takes_in, first_in, idle_in}
+use Rattle.demangle_grammar.proofs.Conforms.{Begins}
 
 abi_tag : Begins Row.abi_tag true ((66, 66) ∷ []) 1
 unfolding rule takes_in first_in idle_in

@@ -1,12 +1,11 @@
 -- Readings of whole names, by computation. Written by tools/conformance.py.
-use Rattle.std.specs.Prelude.{true, false, codes, pos, negsuc}
+use Rattle.std.specs.Prelude.{false, codes, pos}
 use Rattle.std.proofs.Common.{refl}
-use Rattle.demangle_text.specs.Kind.{End, Text, Bad, Over}
 use Rattle.demangle_tree.specs.Core.{Tag, N, U, end, node, place, number, flag, chosen, ref, mark}
 use Rattle.demangle_grammar.specs.Rule.{Row}
 use Rattle.demangle_grammar.specs.Rows.{rule}
-use Rattle.demangle_grammar.specs.Reading.{run_rule, read_from, measure_from}
-use Rattle.demangle_grammar.proofs.Conforms.{Read, Refused, TooDeep, Reads, ReadsUnder, by_measure}
+use Rattle.demangle_grammar.specs.Reading.{run_rule, measure_from}
+use Rattle.demangle_grammar.proofs.Conforms.{Read, Reads, by_measure}
 
 r94 : Reads Row.mangled_name false (codes "_ZmmiE") (Read 5 (node Tag.MangledNameEncoding (node Tag.EncodingFunction (node Tag.NameUnscoped (node Tag.UnscopedNameUnqualified (node Tag.UnqualifiedNameOperator (node Tag.OperatorNameSimple (chosen 0 40 end) (node Tag.AbiTags (node Tag.Several end end) end)) end) end) (node Tag.BareFunctionType (node Tag.Several (node Tag.TypeHandleBuiltin (node Tag.BuiltinTypeStandard (chosen 1 8 end) end) end) end) end)) (node Tag.Several end end)) end) 0 0) 11
 unfolding measure_from run_rule rule

@@ -1,7 +1,7 @@
 -- Readings of rows, by computation. Written by tools/conformance.py.
 use Rattle.std.specs.Prelude.{true, false, codes, pos, negsuc}
 use Rattle.std.proofs.Common.{refl}
-use Rattle.demangle_text.specs.Kind.{End, Text, Bad, Over}
+use Rattle.demangle_text.specs.Kind.{End, Text, Bad}
 use Rattle.demangle_tree.specs.Core.{Tag, N, U, end, node, place, number, flag, chosen, ref, mark}
 use Rattle.demangle_grammar.specs.Rule.{Row}
 use Rattle.demangle_grammar.specs.Rows.{rule}
