@@ -1,0 +1,13 @@
+//! The readers that need no recursion, and the context that every reader is given.
+#![tactic(auto)]
+
+mod bytes;
+mod context;
+mod depth;
+mod readers;
+mod rows;
+
+pub use context::ParseContext;
+pub use depth::{Depth, hidden};
+pub use readers::{read_cv_qualifiers, read_source_name};
+pub use rows::{cv_qualifiers, identifier, source_name};
