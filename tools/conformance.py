@@ -152,6 +152,13 @@ BY_HAND = [
     ("SpecialName", "Tch0_h0_1f", "VirtualOverrideThunkCovariant(NonVirtual(NvOffset(0)), NonVirtual(NvOffset(0)), Data(%s))" % UNSCOPED(9, 10), (0, 0)),
     ("SpecialName", "Gr8_a$Sb$_c", "JavaResource((ResourceName(4, 7), ResourceName(7, 10), ResourceName(10, 11)))", (0, 0)),
     ("Number", "9223372036854775807", "9223372036854775807", (0, 0)),
+    # the arguments behind a conversion to a template parameter are the operator's own
+    ("OperatorName", "cvT_", "Conversion(BackReference(0))", (1, 0)),
+    ("NestedName", "N1acvT_IiEE", "Template(CvQualifiers(False, False, False), None, NonSubstitution(NonSubstitution(0)))", (3, 1)),
+    ("NestedName", "N1acvT_IiEIiEE", "Template(CvQualifiers(False, False, False), None, NonSubstitution(NonSubstitution(0)))", (4, 1)),
+    # a substitution in a prefix replaces what was read before it
+    ("PrefixHandle", "1a1bS_", "BackReference(0)", (2, 0)),
+    ("PrefixHandle", "1aSt1b", "BackReference(1)", (2, 0)),
 ]
 # row, bytes, kind
 REFUSED = [
@@ -188,6 +195,7 @@ COMPLETED = [
     ("PrefixHandle", "DtT_E1aE", [("N", "Prefix(Decltype(IdExpression(%s)))" % PARAM), ("U", "Prefix(Nested(BackReference(0), %s))" % NAME(6, 7))]),
     ("PrefixHandle", "1aM1bE", [("N", "Prefix(Unqualified(%s))" % NAME(1, 2)), ("U", "Prefix(Nested(BackReference(0), %s))" % NAME(4, 5))]),
     ("PrefixHandle", "1a1bM1cE", [("N", "Prefix(Unqualified(%s))" % NAME(1, 2)), ("N", "Prefix(DataMember(BackReference(0), DataMemberPrefix(SourceName(Identifier(3, 4)))))"), ("U", "Prefix(Nested(BackReference(1), %s))" % NAME(6, 7))]),
+    ("PrefixHandle", "1aSt1bE", [("N", "Prefix(Unqualified(%s))" % NAME(1, 2)), ("U", "Prefix(Nested(WellKnown(Std), %s))" % NAME(5, 6))]),
     ("PrefixHandle", "St1aE", [("U", "Prefix(Nested(WellKnown(Std), %s))" % NAME(3, 4))]),
     ("UnresolvedTypeHandle", "T_", [("N", "UnresolvedType(Template(TemplateParam(0), None))")]),
     ("UnresolvedTypeHandle", "T_IiE", [("N", "UnresolvedType(Template(TemplateParam(0), %s))" % INTS % 2)]),
@@ -401,6 +409,7 @@ use Rattle.std.specs.Prelude.{true, false, codes, pos, negsuc}
 use Rattle.std.proofs.Common.{refl}
 use Rattle.demangle_text.specs.Kind.{End, Text, Bad, Over}
 use Rattle.demangle_tree.specs.Core.{Tag, N, U, end, node, place, number, flag, chosen, ref, mark}
+use Rattle.demangle_tree.specs.Table.{entry_at}
 use Rattle.demangle_grammar.specs.Rule.{Row}
 use Rattle.demangle_grammar.specs.Rows.{rule}
 use Rattle.demangle_grammar.specs.Reading.{run_rule, read_from, measure_from}
@@ -413,7 +422,7 @@ def write(stem, about, cases):
     for number, case in enumerate(cases):
         name = "%s%d" % (stem[0].lower(), number)
         free = case["limit"] is None
-        blocks.append("\n%s : %s\nunfolding %s run_rule rule\n%s = %s\n" % (
+        blocks.append("\n%s : %s\nunfolding %s run_rule rule entry_at\n%s = %s\n" % (
             name, case["statement"], "measure_from" if free else "read_from", name, "by_measure refl" if free else "refl"))
     size = (FILE_LINES - HEAD.count("\n")) // 5
     files = [blocks[i:i + size] for i in range(0, len(blocks), size)]
@@ -461,7 +470,7 @@ def by_hand():
 
 
 def write_by_hand():
-    blocks = ["\nh%d : %s\nunfolding read_from run_rule rule\nh%d = refl\n" % (i, text, i) for i, text in enumerate(by_hand())]
+    blocks = ["\nh%d : %s\nunfolding read_from run_rule rule entry_at\nh%d = refl\n" % (i, text, i) for i, text in enumerate(by_hand())]
     with open(os.path.join(FOLDER, "ByHand.antt"), "w") as out:
         head = HEAD.replace("{Read, Refused, TooDeep, Reads, ReadsUnder, by_measure}", "{Read, Refused, ReadsUnder, entry, Completes}")
         head = head.replace("{run_rule, read_from, measure_from}", "{run_rule, read_from}").replace("codes, pos, negsuc}", "[], ◌∷◌, codes, pos}")

@@ -1,8 +1,10 @@
 -- Each entry refers to earlier ones.
 use Rattle.std.specs.Prelude.{◌<◌, ◌≤◌, Bool, true, false, List, [], ◌∷◌, ◌++◌, pos, ℕ}
 use Rattle.std.proofs.Common.{subst, sym, arith, append_assoc, ⊎_elim}
+use Rattle.demangle_tree.specs.Table.{Entry, count, count_if}
+use Rattle.demangle_tree.specs.Core.{same_which}
 use Rattle.demangle_tree.specs.Core.{Core, end, node, place, number, flag, chosen, ref, ◌⊕◌, Tag, Which, N, U, mark}
-use Rattle.demangle_grammar.specs.Tree.{Tree, How, core, components, Sound, HowSound, RefersTo, ReferBack, IsOfEntry, adds, shape, index_of, member_of, data_member_of, first_of, rest_of, template_entry, front, taken_of, Entry, count, count_if, same, nested_unqualified, nested_template, reshaped, longer_by, reference}
+use Rattle.demangle_grammar.specs.Tree.{Tree, How, core, components, Sound, HowSound, RefersTo, ReferBack, IsOfEntry, adds, shape, index_of, member_of, data_member_of, first_of, rest_of, template_entry, front, taken_of, nested_unqualified, nested_template, reshaped, longer_by, reference}
 use Rattle.demangle_grammar.specs.Laws.{RefersBack}
 use Rattle.demangle_grammar.proofs.Kept.{append-nil}
 use Rattle.demangle_grammar.proofs.Readings.{added, sound}
@@ -10,7 +12,7 @@ use Rattle.demangle_grammar.specs.Rule.{Make}
 
 count_more : (w : Which) (e f : List Entry) → count w e ≤ count w (e ++ f)
 count_more w [] f = omega arith
-count_more w (x ∷ e) f = by (same w x.which) (count_more w e f)
+count_more w (x ∷ e) f = by (same_which w x.which) (count_more w e f)
   where
     by : (z : Bool) → count w e ≤ count w (e ++ f) → count_if z (count w e) ≤ count_if z (count w (e ++ f))
     by true h = omega arith
@@ -19,7 +21,7 @@ count_more w (x ∷ e) f = by (same w x.which) (count_more w e f)
 count_last : (w : Which) (e : List Entry) (c : Core) → count w e < count w (e ++ record { which = w; tree = c } ∷ [])
 count_last N [] c = omega arith
 count_last U [] c = omega arith
-count_last w (x ∷ e) c = by (same w x.which) (count_last w e c)
+count_last w (x ∷ e) c = by (same_which w x.which) (count_last w e c)
   where
     by : (z : Bool) → count w e < count w (e ++ record { which = w; tree = c } ∷ []) → count_if z (count w e) < count_if z (count w (e ++ record { which = w; tree = c } ∷ []))
     by true h = omega arith

@@ -1,7 +1,8 @@
 -- The program's reading is the reading of cores.
-use Rattle.std.specs.Prelude.{None, Some, ◌≡◌, ℕ, zero, suc, ◌+◌, ◌-◌, ◌≤◌, Bool, true, false, cond, not, ◌||◌, List, [], ◌∷◌, ◌++◌, length, take, drop, nat_lt, nat_eq, ◌==◌, codes, if◌then◌else◌, pos, slice_get, Ok, Err, Option, ℤ}
-use Rattle.std.proofs.Common.{refl, ap, sym, subst, ◌∙◌, arith, rules, Some}
+use Rattle.std.specs.Prelude.{◌≡◌, ℕ, zero, suc, ◌+◌, ◌-◌, ◌≤◌, Bool, true, false, cond, not, ◌||◌, List, [], ◌∷◌, ◌++◌, length, take, drop, nat_lt, nat_eq, ◌==◌, codes, if◌then◌else◌, pos, Ok, Err, ℤ}
+use Rattle.std.proofs.Common.{refl, ap, sym, subst, ◌∙◌, arith, rules}
 use Rattle.std.proofs.lemmas.List.{length-take-le}
+use Rattle.demangle_tree.specs.Table.{added, count, size}
 use Rattle.demangle_tree.specs.Core.{Core, end, node, place, number, flag, chosen, ref, mark, ◌⊕◌, Which, N, U}
 use Rattle.demangle_text.specs.Kind.{Cause, Kind, Unread, End, Text, Bad, ends}
 use Rattle.demangle_text.specs.Kind as kind
@@ -11,14 +12,13 @@ use Rattle.demangle_text.specs.Bytes.{span, is_digit}
 use Rattle.demangle_text.specs.Word.{starts, missing_word, word_at}
 use Rattle.demangle_text.specs.Number.{natural_at, number_at, natural_from, number_from}
 use Rattle.demangle_vocab.specs.Table.{table_at, word_read, table_from}
-use Rattle.demangle_grammar.specs.Table.{Table, added, size}
 use Rattle.demangle_grammar.specs.Rule.{Given, Class, Row, Eat, Leaf, Rule}
-use Rattle.demangle_grammar.specs.Tree.{cores, How, shape, component_of, template_entry, taken_of, reference, Entry, count, count_if, same}
+use Rattle.demangle_grammar.specs.Tree.{cores, How, shape, component_of, template_entry, taken_of, reference}
 use Rattle.demangle_grammar.specs.Rows.{rule}
-use Rattle.demangle_grammar.specs.Reading.{State, Answer, Yes, No, Deep, find, numbered, worded, given, holds, refusal, marks, step, where_so, found, next_do, or_else, ended, many, turned, turn, turns, whole, sized, tried, trial_of, run_rule, read_from, answer, go_on, hard, soft, kept, entry_at, entry_of, last_component, prefix_entry, is_nestable, is_empty, next_is, ahead_by, widened, is_in, run_found}
-use Rattle.demangle_grammar.specs.Code.{joined, joined_to, Here, at, Reply, Out, close, committed, from_row, read_spot, read_leaf, read_core, and_then, and_again, unless_ends, eat_at, taken_from, taken_over, entry_in, or_end, marked, referred, eaten, cstep, all_of, Go, one_row, rows_of, starred, turns_of, inside, trial_at, flag_of, taken_if, taken_word, choice, go_after, crun, cread}
+use Rattle.demangle_grammar.specs.Reading.{State, Answer, Yes, No, Deep, find, numbered, worded, given, holds, refusal, marks, step, where_so, found, next_do, or_else, ended, many, turned, turn, turns, whole, sized, tried, trial_of, run_rule, read_from, answer, go_on, hard, soft, kept, prefix_entry, is_nestable, is_empty, next_is, ahead_by, widened, is_in, run_found}
+use Rattle.demangle_grammar.specs.Code.{joined, joined_to, Here, at, Reply, Out, close, committed, from_row, read_spot, read_leaf, read_core, and_then, and_again, unless_ends, eat_at, taken_from, taken_over, marked, referred, eaten, cstep, all_of, Go, one_row, rows_of, starred, turns_of, inside, trial_at, flag_of, taken_if, taken_word, choice, go_after, crun, cread}
 use Rattle.demangle_grammar.specs.Code as code
-use Rattle.demangle_grammar.specs.Seen.{listed_if, listed, table_seen, seen, replied}
+use Rattle.demangle_grammar.specs.Seen.{seen, replied}
 use Rattle.demangle_grammar.specs.Laws.{ReadsCode}
 use Rattle.demangle_grammar.proofs.Numbers.{NaturalAt, natural_fits, NumberAt, number_fits, WordAt, word_fits, starts_so}
 
@@ -50,67 +50,6 @@ snoc_to a (b ∷ bs) t = ap (λ x. a ⊕ x) (snoc_to b bs t) ∙ sym (plus_assoc
 snoc : (acc : List Core) (t : Core) → joined (acc ++ t ∷ []) ≡ joined acc ⊕ t
 snoc [] t = refl
 snoc (a ∷ bs) t = snoc_to a bs t
-
--- ---- the table
-size_is : (w : Which) (es : List Entry) → size w (table_seen es) ≡ count w es
-unfolding size
-size_is N [] = refl
-size_is N (e ∷ es) = by (same N e.which) (size_is N es)
-  where
-    by : (b : Bool) → length (listed N es) ≡ count N es → length (listed_if b e.tree (listed N es)) ≡ count_if b (count N es)
-    by true h = ap suc h
-    by false h = h
-size_is U [] = refl
-size_is U (e ∷ es) = by (same U e.which) (size_is U es)
-  where
-    by : (b : Bool) → length (listed U es) ≡ count U es → length (listed_if b e.tree (listed U es)) ≡ count_if b (count U es)
-    by true h = ap suc h
-    by false h = h
-
-listed_snoc : (w : Which) (es : List Entry) (x : Entry) → listed w (es ++ x ∷ []) ≡ listed w es ++ listed w (x ∷ [])
-listed_snoc w [] x = refl
-listed_snoc w (e ∷ es) x = by (same w e.which) (listed_snoc w es x)
-  where
-    by : (b : Bool) → listed w (es ++ x ∷ []) ≡ listed w es ++ listed w (x ∷ []) → listed_if b e.tree (listed w (es ++ x ∷ [])) ≡ listed_if b e.tree (listed w es) ++ listed w (x ∷ [])
-    by true h = ap (λ ts. e.tree ∷ ts) h
-    by false h = h
-
-pub append_nil : (xs : List Core) → xs ++ [] ≡ xs
-append_nil [] = refl
-append_nil (x ∷ xs) = ap (λ ys. x ∷ ys) (append_nil xs)
-
-unfoldable pub pair : List Core → List Core → Table
-pair xs ys = record { first = xs; second = ys }
-
-added_is : (w : Which) (t : Core) (es : List Entry) → table_seen (es ++ record { which = w; tree = t } ∷ []) ≡ added w t (table_seen es)
-unfolding added pair
-added_is N t es = ap (λ xs. pair xs (listed U (es ++ record { which = N; tree = t } ∷ []))) (listed_snoc N es _) ∙ ap (λ ys. pair (listed N es ++ t ∷ []) ys) (listed_snoc U es (record { which = N; tree = t }) ∙ append_nil (listed U es))
-added_is U t es = ap (λ xs. pair xs (listed U (es ++ record { which = U; tree = t } ∷ []))) (listed_snoc N es (record { which = U; tree = t }) ∙ append_nil (listed N es)) ∙ ap (λ ys. pair (listed N es) ys) (listed_snoc U es _)
-
-nth_is : (w : Which) (k : ℕ) (es : List Entry) → or_end (slice_get (listed w es) k) ≡ entry_at w k es
-nth_is w k [] = refl
-nth_is w zero (e ∷ es) = by (same w e.which) (nth_is w zero es)
-  where
-    by : (b : Bool) → or_end (slice_get (listed w es) zero) ≡ entry_at w zero es → or_end (slice_get (listed_if b e.tree (listed w es)) zero) ≡ cond b e.tree (entry_at w zero es)
-    by true h = refl
-    by false h = h
-nth_is w (suc k) (e ∷ es) = by (same w e.which) (nth_is w k es) (nth_is w (suc k) es)
-  where
-    by : (b : Bool) → or_end (slice_get (listed w es) k) ≡ entry_at w k es → or_end (slice_get (listed w es) (suc k)) ≡ entry_at w (suc k) es
-        → or_end (slice_get (listed_if b e.tree (listed w es)) (suc k)) ≡ cond b (entry_at w k es) (entry_at w (suc k) es)
-    by true h i = h
-    by false h i = i
-
-entry_is : (w : Which) (k : ℕ) (es : List Entry) → entry_in w k (table_seen es) ≡ entry_at w k es
-entry_is N k es = nth_is N k es
-entry_is U k es = nth_is U k es
-
-prefix_is : (a : Core) (es : List Entry) → code.entry_of (last_component a) (table_seen es) ≡ prefix_entry a es
-prefix_is a es = by (last_component a)
-  where
-    by : (x : Option (Which × ℕ)) → code.entry_of x (table_seen es) ≡ entry_of x es
-    by None = refl
-    by (Some x) = entry_is x.0 x.1 es
 
 -- ---- what is seen of an answer
 data SeesRow : Answer Core → Reply → Type 0 where
@@ -193,7 +132,7 @@ digit_within i [] = tt
 digit_within i (b ∷ bs) = test_within (is_digit b) (b ∷ bs) 1 (number (pos (b - 48)) end) refl
 
 moved : (n : ℕ) (s : State) → length (take n s.rest) ≡ n → seen (ahead_by n s) ≡ at (seen s) (skip n (seen s).spot)
-moved n s e = ap (λ m. let h : Here = record { spot = record { index = s.at + m; left = drop n s.rest }; table = table_seen s.entries } in h) e
+moved n s e = ap (λ m. let h : Here = record { spot = record { index = s.at + m; left = drop n s.rest }; table = s.entries } in h) e
 
 found_sees : (s : State) (acc : List Core) (go : State → Core → Answer Core) (go' : Here → List Core → Out) → Same go go' → (f : Found Core) → Within s.rest f
     → Sees (found cores answer go_on f (λ n v. go (ahead_by n s) (joined acc ⊕ v))) (read_leaf (and_rest f (seen s).spot) (λ c p. go' (at (seen s) p) (acc ++ c ∷ [])))
@@ -211,7 +150,7 @@ natural_sees s acc go go' h (took n v) e = same_at go go' h (ahead_by n s) (join
 natural_sees s acc go go' h (none k) e = Sees.no false k
 
 nothing_taken : (s : State) → seen (ahead_by 0 s) ≡ seen s
-nothing_taken s = ap (λ m. let h : Here = record { spot = record { index = m; left = s.rest }; table = table_seen s.entries } in h) (let e : s.at + 0 ≡ s.at = omega arith in e)
+nothing_taken s = ap (λ m. let h : Here = record { spot = record { index = m; left = s.rest }; table = s.entries } in h) (let e : s.at + 0 ≡ s.at = omega arith in e)
 
 eat_sees : (x : Eat) (s : State) (acc : List Core) (go : State → Core → Answer Core) (go' : Here → List Core → Out) → Same go go'
     → Sees (found cores answer go_on (find x s.at s.rest) (λ n v. go (ahead_by n s) (joined acc ⊕ v))) (eaten x (seen s) acc go')
@@ -231,14 +170,10 @@ word_sees : (w : List ℕ) (s : State) (acc : List Core) (go : State → Core �
 word_sees w s acc go go' h true e k = same_at go go' h (ahead_by (length w) s) (joined acc ⊕ end) acc _ (sym (plus_end (joined acc))) (moved (length w) s (ap length (starts_so w s.rest e)))
 word_sees w s acc go go' h false e k = Sees.no false k
 
-mark_sees : (w : Which) (s : State) (a : Core) (acc acc' : List Core) (go : State → Core → Answer Core) (go' : Here → List Core → Out) (x : Core) → Same go go' → joined acc' ≡ x
-    → Sees (go (kept s (record { which = w; tree = a })) x) (go' (record { spot = (seen s).spot; table = added w a (table_seen s.entries) }) acc')
-mark_sees w s a acc acc' go go' x h e = same_at go go' h (kept s (record { which = w; tree = a })) x acc' _ e (ap (λ t. let m : Here = record { spot = (seen s).spot; table = t } in m) (added_is w a s.entries))
-
-refer_sees : (k n m : ℕ) (s : State) (go : State → Core → Answer Core) (go' : Here → List Core → Out) → Same go go' → m ≡ n
-    → Sees (where_so cores answer go_on (nat_lt k n) Bad (λ u. go s (reference N k))) (if nat_lt k m then go' (seen s) (reference N k ∷ []) else code.No false (Unread Bad))
-refer_sees k n m s go go' h e = subst (λ x. Sees (where_so cores answer go_on (nat_lt k n) Bad (λ u. go s (reference N k))) (if nat_lt k x then go' (seen s) (reference N k ∷ []) else code.No false (Unread Bad))) (sym e)
-    (where_sees (nat_lt k n) Bad (λ u. go s (reference N k)) (go' (seen s) (reference N k ∷ [])) (h s (reference N k ∷ [])))
+mark_sees : (w : Which) (s : State) (a x : Core) (acc' : List Core) (go : State → Core → Answer Core) (go' : Here → List Core → Out) → Same go go' → joined acc' ≡ x
+    → Sees (go (kept s (record { which = w; tree = a })) x) (go' (record { spot = (seen s).spot; table = added w a s.entries }) acc')
+unfolding added
+mark_sees w s a x acc' go go' h e = same_at go go' h (kept s (record { which = w; tree = a })) x acc' _ e refl
 
 take_sees : (x a : Core) (s : State) (go : State → Core → Answer Core) (go' : Here → List Core → Out) → Same go go' → (b : Bool)
     → Sees (where_so cores answer go_on b Text (λ u. go s (taken_of x a))) (read_core (if b then Ok (taken_of x a) else Err (Unread Text)) (λ c. go' (seen s) (c ∷ [])))
@@ -250,20 +185,19 @@ kind_sees true = Sees.no false End
 kind_sees false = Sees.no false Text
 
 step_sees : (l : Leaf) (s : State) (acc : List Core) (go : State → Core → Answer Core) (go' : Here → List Core → Out) → Same go go' → Sees (step cores answer go_on l s (joined acc) go) (cstep l (seen s) acc go')
-unfolding word_at taken_over
+unfolding word_at taken_over size
 step_sees (Leaf.word w) s acc go go' h = word_sees w s acc go go' h (starts w s.rest) refl (missing_word w s.rest)
 step_sees (Leaf.eat x) s acc go go' h = eat_sees x s acc go go' h
 step_sees (Leaf.check c) s acc go go' h = where_sees (holds c s.rest (joined acc)) (refusal c) (λ u. go s (joined acc)) (go' (seen s) acc) (h s acc)
 step_sees (Leaf.make m) s acc go go' h = h s (shape (How.shaped m) (joined acc) ∷ [])
-step_sees (Leaf.mark m) s acc go go' h = let w = marks m s.rest in mark_sees w s (joined acc) acc (reference w (size w (table_seen s.entries)) ∷ []) go go' (reference w (count w s.entries)) h (ap (reference w) (size_is w s.entries))
-step_sees Leaf.refer s acc go go' h = refer_sees (component_of (joined acc)) (count N s.entries) (size N (table_seen s.entries)) s go go' h (size_is N s.entries)
-step_sees Leaf.take_over s acc go go' h =
-    let x = prefix_entry (joined acc) s.entries in
-    subst (λ y. Sees (where_so cores answer go_on (is_nestable x) Text (λ u. go s (taken_of x (joined acc)))) (read_core (taken_from y (joined acc)) (λ c. go' (seen s) (c ∷ [])))) (sym (prefix_is (joined acc) s.entries))
-    (take_sees x (joined acc) s go go' h (is_nestable x))
+step_sees (Leaf.mark m) s acc go go' h =
+    mark_sees (marks m s.rest) s (joined acc) (reference (marks m s.rest) (count (marks m s.rest) s.entries)) (reference (marks m s.rest) (size (marks m s.rest) s.entries) ∷ []) go go' h refl
+step_sees Leaf.refer s acc go go' h =
+    where_sees (nat_lt (component_of (joined acc)) (count N s.entries)) Bad (λ u. go s (reference N (component_of (joined acc)))) (go' (seen s) (reference N (component_of (joined acc)) ∷ [])) (h s (reference N (component_of (joined acc)) ∷ []))
+step_sees Leaf.take_over s acc go go' h = take_sees (prefix_entry (joined acc) s.entries) (joined acc) s go go' h (is_nestable (prefix_entry (joined acc) s.entries))
 step_sees Leaf.no_prefix s acc go go' h = kind_sees (next_is (Class.these (codes "E")) s.rest || is_empty s.rest)
 step_sees Leaf.mark_first s acc go go' h =
-    mark_sees U s (template_entry (joined acc)) acc (shape (How.made_first (size U (table_seen s.entries))) (joined acc) ∷ []) go go' (shape (How.made_first (count U s.entries)) (joined acc)) h (ap (λ n. shape (How.made_first n) (joined acc)) (size_is U s.entries))
+    mark_sees U s (template_entry (joined acc)) (shape (How.made_first (count U s.entries)) (joined acc)) (shape (How.made_first (size U s.entries)) (joined acc) ∷ []) go go' h refl
 
 -- ---- one after another
 then_sees : {x : Answer Core} {y : Out} → (go : State → Core → Answer Core) (go' : Here → List Core → Out) → Sees x y → Same go go' → Sees (next_do cores answer go_on go x) (and_then y go')

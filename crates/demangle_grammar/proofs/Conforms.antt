@@ -1,10 +1,11 @@
 -- What is compared of a reading of given bytes.
 use Rattle.std.specs.Prelude.{◌≡◌, ℕ, ◌&&◌, ◌||◌, nat_le, Bool, false, zero, suc, List, [], ◌∷◌}
 use Rattle.std.proofs.Common.{ap, ◌∙◌, arith}
+use Rattle.demangle_tree.specs.Table.{Entry, count}
 use Rattle.demangle_text.specs.Kind.{Cause}
 use Rattle.demangle_tree.specs.Core.{Core, Which, N, U}
 use Rattle.demangle_grammar.specs.Rule.{Row}
-use Rattle.demangle_grammar.specs.Tree.{Entry, Tree, core, count, nil}
+use Rattle.demangle_grammar.specs.Tree.{Tree, core, nil}
 use Rattle.demangle_grammar.specs.Reading.{Answer, Yes, No, Deep, Measured, measure_from, enough, read_all}
 use Rattle.demangle_grammar.specs.First.{takes_row, first, idle}
 use Rattle.demangle_grammar.specs.Laws.{from, read, reach, components_read}

@@ -1,9 +1,10 @@
 -- A reading of cores is the reading of trees, and then their cores.
 use Rattle.std.specs.Prelude.{◌≡◌, ℕ, zero, suc, Bool, true, false, List, length, take, drop, nat_lt, ◌||◌, codes}
 use Rattle.std.proofs.Common.{refl, ap, ◌∙◌}
+use Rattle.demangle_tree.specs.Table.{count}
 use Rattle.demangle_tree.specs.Core.{Core, end, N, ◌⊕◌}
 use Rattle.demangle_grammar.specs.Rule.{Row, Rule, Class, Leaf}
-use Rattle.demangle_grammar.specs.Tree.{Tree, How, nil, core, trees, cores, component_of, shape, count}
+use Rattle.demangle_grammar.specs.Tree.{Tree, How, nil, core, trees, cores, component_of, shape}
 use Rattle.demangle_grammar.specs.Rows.{rule}
 use Rattle.demangle_grammar.specs.Reading.{State, Answer, Yes, No, Deep, is_empty, widened, find, holds, refusal, prefix_entry, is_nestable, where_so, found, step, answer, go_on, next_do, or_else, hard, soft, ended, many, turned, turn, turns, sized, whole, trial_of, tried, next_is, run_rule, read_from, ahead_by}
 use Rattle.demangle_grammar.specs.Laws.{cored, ReadsCores}

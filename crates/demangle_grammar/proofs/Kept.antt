@@ -1,12 +1,13 @@
 -- What each derivation keeps: the spelling, the index, the components, and that the tree is sound.
-use Rattle.std.specs.Prelude.{None, Some, ◌≡◌, ◌⊎◌, ℕ, zero, suc, ◌+◌, ◌-◌, ◌≤◌, ◌<◌, Bool, true, false, cond, List, [], ◌∷◌, ◌++◌, length, take, drop, nat_lt, pos, ℤ, Option}
+use Rattle.std.specs.Prelude.{slice_get, None, Some, ◌≡◌, ◌⊎◌, ℕ, zero, suc, ◌+◌, ◌-◌, ◌≤◌, ◌<◌, Bool, true, false, cond, List, [], ◌∷◌, ◌++◌, length, take, drop, nat_lt, pos, ℤ, Option}
 use Rattle.std.proofs.Common.{inl, inr, refl, subst, sym, ap, ◌∙◌, arith, append_assoc, length-append, Some}
 use Rattle.std.proofs.lemmas.List.{take-append-drop}
 use Rattle.std.proofs.lemmas.Bool.{ltb-true}
-use Rattle.demangle_tree.specs.Core.{Core, end, number, Which, N, U}
+use Rattle.demangle_tree.specs.Table.{Entry, count, entry_at, listed, more_if}
+use Rattle.demangle_tree.specs.Core.{same_which, Core, end, number, Which, N, U}
 use Rattle.demangle_grammar.specs.Rule.{Rule, Leaf, Eat, Given}
-use Rattle.demangle_grammar.specs.Tree.{trees, Tree, How, nil, core, RefersTo, IsOfEntry, spell, components, Sound, HowSound, adds, component_of, template_entry, Entry, count, same}
-use Rattle.demangle_grammar.specs.Reading.{State, Answer, Yes, stepped, found, where_so, answer, go_on, find, holds, marks, kept, prefix_entry, is_nestable, widened, ahead_by, run_found, is_in, entry_at, worded, numbered, entry_of, refusal, last_component}
+use Rattle.demangle_grammar.specs.Tree.{trees, Tree, How, nil, core, RefersTo, IsOfEntry, spell, components, Sound, HowSound, adds, component_of, template_entry}
+use Rattle.demangle_grammar.specs.Reading.{State, Answer, Yes, stepped, found, where_so, answer, go_on, find, holds, marks, kept, prefix_entry, is_nestable, widened, ahead_by, run_found, is_in, worded, numbered, entry_of, refusal, last_component, or_end}
 use Rattle.demangle_grammar.proofs.Derives.{Derives, narrowed, digits_of}
 use Rattle.demangle_grammar.proofs.Holds.{Holds}
 use Rattle.demangle_text.specs.Word.{starts, missing_word}
@@ -128,18 +129,24 @@ fields_refer (Eat.give Given.empty) at bs = λ e. (tt, tt)
 fields_refer Eat.here at bs = λ e. tt
 
 -- what stands at a place of a list is of an entry
-at_entry : (w : Which) (k : ℕ) (es : List Entry) → IsOfEntry (entry_at w k es) es
-at_entry w k [] = refl
-at_entry w zero (x ∷ es) = by (same w x.which) (at_entry w zero es)
+nth_entry : (w : Which) (k : ℕ) (es : List Entry) → IsOfEntry (or_end (slice_get (listed w es) k)) es
+nth_entry w k [] = refl
+nth_entry w zero (x ∷ es) = by (same_which w x.which) (nth_entry w zero es)
   where
-    by : (z : Bool) → IsOfEntry (entry_at w zero es) es → (cond z x.tree (entry_at w zero es) ≡ x.tree) ⊎ IsOfEntry (cond z x.tree (entry_at w zero es)) es
+    by : (z : Bool) → IsOfEntry (or_end (slice_get (listed w es) zero)) es
+        → (or_end (slice_get (more_if z x.tree (listed w es)) zero) ≡ x.tree) ⊎ IsOfEntry (or_end (slice_get (more_if z x.tree (listed w es)) zero)) es
     by true i = inl refl
     by false i = inr i
-at_entry w (suc k) (x ∷ es) = by (same w x.which) (at_entry w k es) (at_entry w (suc k) es)
+nth_entry w (suc k) (x ∷ es) = by (same_which w x.which) (nth_entry w k es) (nth_entry w (suc k) es)
   where
-    by : (z : Bool) → IsOfEntry (entry_at w k es) es → IsOfEntry (entry_at w (suc k) es) es → (cond z (entry_at w k es) (entry_at w (suc k) es) ≡ x.tree) ⊎ IsOfEntry (cond z (entry_at w k es) (entry_at w (suc k) es)) es
+    by : (z : Bool) → IsOfEntry (or_end (slice_get (listed w es) k)) es → IsOfEntry (or_end (slice_get (listed w es) (suc k))) es
+        → (or_end (slice_get (more_if z x.tree (listed w es)) (suc k)) ≡ x.tree) ⊎ IsOfEntry (or_end (slice_get (more_if z x.tree (listed w es)) (suc k))) es
     by true i j = inr i
     by false i j = inr j
+
+at_entry : (w : Which) (k : ℕ) (es : List Entry) → IsOfEntry (or_end (entry_at w k es)) es
+unfolding entry_at
+at_entry w k es = nth_entry w k es
 
 no_entry : (es : List Entry) → IsOfEntry end es
 no_entry [] = refl

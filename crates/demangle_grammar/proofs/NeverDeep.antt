@@ -2,9 +2,10 @@
 use Rattle.std.specs.Prelude.{◌≡◌, ◌≢◌, ℕ, zero, suc, ◌+◌, ◌*◌, ◌≤◌, ◌<◌, Bool, true, false, not, ◌&&◌, ◌||◌, List, [], ◌∷◌, length, take, drop, nat_lt, codes}
 use Rattle.std.proofs.Common.{refl, subst, sym, arith, length-take, length-drop}
 use Rattle.std.proofs.lemmas.Bool.{ltb-true}
+use Rattle.demangle_tree.specs.Table.{count}
 use Rattle.demangle_tree.specs.Core.{Core, N}
 use Rattle.demangle_grammar.specs.Rule.{Row, Rule, Class, Leaf}
-use Rattle.demangle_grammar.specs.Tree.{trees, Tree, How, nil, core, component_of, count}
+use Rattle.demangle_grammar.specs.Tree.{trees, Tree, How, nil, core, component_of}
 use Rattle.demangle_grammar.specs.Rows.{rule}
 use Rattle.demangle_grammar.specs.Reading.{State, Answer, Yes, No, Deep, stepped, found, where_so, prefix_entry, is_nestable, find, holds, refusal, answer, go_on, next_do, or_else, hard, soft, ended, many, turned, turn, turns, sized, whole, is_empty, widened, ahead_by, trial_of, tried, next_is, run_rule, read_from, enough}
 use Rattle.demangle_grammar.specs.Laws.{Ends}

@@ -1,17 +1,17 @@
 -- The reading as the program does it: of cores, with the parts so far in a list, and with the kind `Deep` for what ends all reading.
-use Rattle.std.specs.Prelude.{ℕ, zero, suc, Bool, true, false, List, [], ◌∷◌, ◌++◌, length, take, nat_lt, nat_eq, ◌==◌, ◌||◌, if◌then◌else◌, pos, codes, Result, Ok, Err, Option, Some, None, slice_get}
+use Rattle.std.specs.Prelude.{ℕ, zero, suc, Bool, true, false, List, [], ◌∷◌, ◌++◌, length, take, nat_lt, nat_eq, ◌==◌, ◌||◌, if◌then◌else◌, pos, codes, Result, Ok, Err, Option, Some, None}
 use Rattle.demangle_tree.specs.Core.{Core, end, number, flag, chosen, mark, ◌⊕◌, Which, N, U}
 use Rattle.demangle_text.specs.Kind.{Kind, End, Text, Bad, Unread, Deep, ends}
 use Rattle.demangle_text.specs.Spot.{Spot, skip}
 use Rattle.demangle_text.specs.Found.{and_rest}
 use Rattle.demangle_text.specs.Word.{starts, word_at}
 use Rattle.demangle_text.specs.Number.{number_from, natural_from}
-use Rattle.demangle_grammar.specs.Table.{Table, added, size}
+use Rattle.demangle_tree.specs.Table.{Table, added, size}
 use Rattle.demangle_grammar.specs.Rule.{Given, Class, Row, Eat, Leaf, Rule}
 use Rattle.demangle_grammar.specs.Tree.{How, shape, component_of, template_entry, taken_of, reference}
 use Rattle.demangle_grammar.specs.Rows.{rule}
 use Rattle.demangle_vocab.specs.Table.{table_from}
-use Rattle.demangle_grammar.specs.Reading.{find, holds, refusal, marks, given, next_is, is_empty, last_component, is_nestable}
+use Rattle.demangle_grammar.specs.Reading.{find, holds, refusal, marks, given, next_is, is_empty, prefix_entry, is_nestable}
 
 -- ---- the parts so far
 abbrev pub joined_to : Core → List Core → Core
@@ -21,19 +21,6 @@ joined_to a (b ∷ bs) = a ⊕ joined_to b bs
 abbrev pub joined : List Core → Core
 joined [] = end
 joined (a ∷ bs) = joined_to a bs
-
--- ---- the entry of a prefix
-abbrev pub or_end : Option Core → Core
-or_end None = end
-or_end (Some c) = c
-
-abbrev pub entry_in : Which → ℕ → Table → Core
-entry_in N k e = or_end (slice_get e.first k)
-entry_in U k e = or_end (slice_get e.second k)
-
-abbrev pub entry_of : Option (Which × ℕ) → Table → Core
-entry_of None e = end
-entry_of (Some x) e = entry_in x.0 x.1 e
 
 -- ---- where a reading is, and what it answers
 pub record Here : Type 0 where
@@ -104,7 +91,7 @@ abbrev pub taken_from : Core → Core → Result Core Kind
 taken_from x a = if is_nestable x then Ok (taken_of x a) else Err (Unread Text)
 
 unfoldable pub taken_over : Core → Table → Result Core Kind
-taken_over a e = taken_from (entry_of (last_component a) e) a
+taken_over a e = taken_from (prefix_entry a e) a
 
 abbrev pub marked : Which → Core → Here → (Here → List Core → Out) → Out
 marked w a s f = f (record { spot = s.spot; table = added w a s.table }) (reference w (size w s.table) ∷ [])

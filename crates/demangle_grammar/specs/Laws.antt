@@ -1,14 +1,14 @@
 -- What holds of each reading. A row is read from a state, which holds the index, the bytes that are left and the entries of
 -- both lists so far; `nil` says that no parts were read before it.
 use Rattle.std.specs.Prelude.{◌≡◌, ◌≢◌, ℕ, suc, false, ◌∷◌, codes, ◌+◌, ◌-◌, ◌<◌, ◌≤◌, ◌↔◌, Bool, true, List, [], ◌++◌, length}
+use Rattle.demangle_tree.specs.Table.{Entry, cut, sizes}
 use Rattle.demangle_tree.specs.Core.{Core, end, node, place, ◌⊕◌, Tag, N, U}
 use Rattle.demangle_grammar.specs.Rule.{Row}
-use Rattle.demangle_grammar.specs.Tree.{Entry, Tree, trees, cores, reference, core, nil, spell, components, Sound, RefersTo, ReferBack}
+use Rattle.demangle_grammar.specs.Tree.{Tree, trees, cores, reference, core, nil, spell, components, Sound, RefersTo, ReferBack}
 use Rattle.demangle_grammar.specs.Rows.{rule}
 use Rattle.demangle_grammar.specs.Reading.{State, Answer, Yes, No, Deep, read_from, read_all, levels_of}
 use Rattle.demangle_grammar.specs.Fits.{Fits}
 use Rattle.demangle_grammar.specs.First.{takes_row, first, idle, Misses}
-use Rattle.demangle_grammar.specs.Table.{sizes, cut}
 use Rattle.demangle_grammar.specs.Code.{Here, Found, joined, cread}
 use Rattle.demangle_grammar.specs.Seen.{seen, replied}
 

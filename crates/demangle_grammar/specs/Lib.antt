@@ -1,4 +1,3 @@
-pub mod Table
 pub mod Rule
 pub mod Items
 pub mod Rows

@@ -1,6 +1,7 @@
 -- The ordered reading of rows.
 use Rattle.std.specs.Prelude.{ℕ, zero, suc, ◌+◌, ◌-◌, Bool, true, false, cond, not, ◌&&◌, ◌||◌, List, [], ◌∷◌, ◌++◌, length, take, drop, nat_lt, nat_le, ◌==◌, ℤ, pos, codes, max, Option, Some, None}
 use Rattle.demangle_tree.specs.Core.{Core, end, node, place, number, flag, chosen, ref, mark, Tag, Which, N, U}
+use Rattle.demangle_tree.specs.Table.{Entry, count, entry_at}
 use Rattle.demangle_text.specs.Kind.{Cause, End, Text, Bad}
 use Rattle.demangle_text.specs.Found.{Found, took, none, mapped}
 use Rattle.demangle_text.specs.Bytes.{is_digit, is_capital, is_small, span}
@@ -9,7 +10,7 @@ use Rattle.demangle_text.specs.Number.{number_at, natural_at}
 use Rattle.demangle_vocab.specs.Table.{table_at, more_at}
 use Rattle.demangle_vocab.specs.Operators.{operators}
 use Rattle.demangle_grammar.specs.Rule.{Class, Row, Eat, Cond, Given, Mark, Leaf, Rule}
-use Rattle.demangle_grammar.specs.Tree.{Entry, same, count, Tree, How, nil, component_of, template_entry, Parts, trees}
+use Rattle.demangle_grammar.specs.Tree.{Tree, How, nil, component_of, template_entry, Parts, trees}
 use Rattle.demangle_grammar.specs.Rows.{rule}
 
 -- where a reading is: the index, the bytes that are left, the components so far
@@ -153,11 +154,9 @@ marks Mark.by_end bs = cond (next_is (Class.these (codes "E")) bs) U N
 abbrev pub kept : State → Entry → State
 kept s x = record { at = s.at; rest = s.rest; entries = s.entries ++ x ∷ [] }
 
--- the entry at a place of a list, `end` where there is none
-abbrev pub entry_at : Which → ℕ → List Entry → Core
-entry_at w k [] = end
-entry_at w zero (e ∷ es) = cond (same w e.which) e.tree (entry_at w zero es)
-entry_at w (suc k) (e ∷ es) = cond (same w e.which) (entry_at w k es) (entry_at w (suc k) es)
+abbrev pub or_end : Option Core → Core
+or_end None = end
+or_end (Some c) = c
 
 -- the component that the last field, a handle of a prefix, refers to
 abbrev pub last_component : Core → Option (Which × ℕ)
@@ -167,9 +166,10 @@ last_component (node t c n) = last_component n
 last_component (chosen t k n) = last_component n
 last_component _ = None
 
+-- its tree, or none
 abbrev pub entry_of : Option (Which × ℕ) → List Entry → Core
 entry_of None es = end
-entry_of (Some x) es = entry_at x.0 x.1 es
+entry_of (Some x) es = or_end (entry_at x.0 x.1 es)
 
 abbrev pub prefix_entry : Core → List Entry → Core
 prefix_entry c es = entry_of (last_component c) es

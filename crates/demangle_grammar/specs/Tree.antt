@@ -1,12 +1,8 @@
 -- Trees that were read: what they spell, their core, and their components.
-use Rattle.std.specs.Prelude.{◌⊎◌, ◌≡◌, ℕ, suc, ◌+◌, ◌<◌, Bool, true, false, List, [], ◌∷◌, ◌++◌, pos}
+use Rattle.std.specs.Prelude.{◌⊎◌, ◌≡◌, ℕ, suc, ◌+◌, ◌<◌, List, [], ◌∷◌, ◌++◌, pos}
 use Rattle.demangle_tree.specs.Core.{Core, end, node, place, number, flag, chosen, ref, mark, ◌⊕◌, Tag, Which, N, U}
+use Rattle.demangle_tree.specs.Table.{Entry, count}
 use Rattle.demangle_grammar.specs.Rule.{Make}
-
--- a component: its list, and its tree
-pub record Entry : Type 0 where
-  pub which : Which
-  pub tree : Core
 
 -- what a node of a tree that was read is
 pub data How : Type 0 where
@@ -24,21 +20,6 @@ pub data Tree : Type 0 where
 
 abbrev pub nil : Tree
 nil = leaf [] end
-
--- ---- the entries
-abbrev pub same : Which → Which → Bool
-same N N = true
-same U U = true
-same _ _ = false
-
-abbrev pub count_if : Bool → ℕ → ℕ
-count_if true n = suc n
-count_if false n = n
-
--- how many components a list has
-abbrev pub count : Which → List Entry → ℕ
-count w [] = 0
-count w (e ∷ es) = count_if (same w e.which) (count w es)
 
 -- ---- what the parts of a node become
 -- 0 for nothing, else the number and 1

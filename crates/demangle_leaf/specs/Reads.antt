@@ -6,7 +6,7 @@ use Rattle.demangle_text.specs.declared.index_str.IndexStr.{IndexStr}
 use Rattle.demangle_text.specs.declared.error.Error.{Error}
 use Rattle.demangle_tree.specs.Core.{Core}
 use Rattle.demangle_grammar.specs.Rule.{Row}
-use Rattle.demangle_grammar.specs.Table.{Table}
+use Rattle.demangle_tree.specs.Table.{Table}
 use Rattle.demangle_grammar.specs.Code.{here, Reply, Found, Refused, cread}
 use Rattle.demangle_leaf.specs.Context.{Context, levels_left}
 

@@ -2,7 +2,7 @@
 
 ghost use Rattle.demangle_tree.specs.TreeLeaves.{tree_of_identifier, tree_of_source_name, tree_of_cv_qualifiers};
 ghost use Rattle.demangle_grammar.specs.Rule.{Row};
-ghost use Rattle.demangle_grammar.specs.Table.{Table};
+ghost use Rattle.demangle_tree.specs.Table.{Table};
 ghost use Rattle.demangle_leaf.specs.Reads.{AnswersRow};
 
 use crate::bytes::{identifier_at, optional_word};
