@@ -19,7 +19,7 @@ name_first = "LCU0123456789nadpcomrelsgiqv"
 -- A name in a prefix is followed by no `M`, unless it is a data member.
 abbrev pub first_name : Item
 first_name k =
-    (need (Cond.next (these name_first)) · commit · r Row.unqualified_name · prefix_component Tag.PrefixUnqualified · (next "M" · w "M" // not_next "M")) k
+    (need (Cond.next (these name_first)) · commit · r Row.unqualified_name · prefix_component Tag.PrefixUnqualified · (w "M" // not_next "M")) k
 
 abbrev pub prefix_param : Item
 prefix_param k = (r Row.template_param · prefix_component Tag.PrefixTemplateParam) k
@@ -237,7 +237,7 @@ rule Row.template_param = (w "T" · index · w "_" · made Tag.TemplateParam) Ru
 -- <function-param> ::= fp <CV-qualifiers> [<number>] _ | fL <number> p <CV-qualifiers> [<number>] _ | fpT (5.1.5.9)
 rule Row.function_param =
     (w "f" · more 1 · (w "L" · commit · num10 // give Given.nought) · w "p" · r Row.cv_qualifiers
-    · (next "T" · w "T" · absent // present (index · w "_")) · made Tag.FunctionParam) Rule.done
+    · (w "T" · absent // present (index · w "_")) · made Tag.FunctionParam) Rule.done
 -- <CV-qualifiers> ::= [r] [V] [K] (5.1.5.1)
 rule Row.cv_qualifiers = (flagged "r" · flagged "V" · flagged "K" · made Tag.CvQualifiers) Rule.done
 -- The same, where one at least is asked for: so that it is seen of the data that it takes a byte.
@@ -248,7 +248,7 @@ rule Row.some_cv_qualifiers =
 rule Row.unnamed_type_name = (w "Ut" · opt num10 · w "_" · made Tag.UnnamedTypeName) Rule.done
 -- A part of a resource's name: the bytes up to the next `$`, and with it one of $S, $_, $$.
 rule Row.resource_name =
-    (more 1 · eat (Eat.run Class.resource) · (next "$" · commit · w "$" · (w "S" // w "_" // w "$" // fail) · make (Make.longer 2) // not_next "$")
+    (more 1 · eat (Eat.run Class.resource) · (w "$" · commit · (w "S" // w "_" // w "$" // fail) · make (Make.longer 2) // not_next "$")
     · made Tag.ResourceName) Rule.done
 -- <substitution> ::= S_ | S <seq-id> _, or a word (5.1.10)
 rule Row.substitution =
@@ -382,7 +382,7 @@ rule Row.template_args = (eat Eat.here · w "I" · vec1 (r Row.template_arg) · 
 rule Row.template_arg =
     (w "X" · commit · e · w "E" · made Tag.TemplateArgExpression // r Row.expr_primary · made Tag.TemplateArgSimpleExpression
     // t · made Tag.TemplateArgTypeArg
-    // (next "J" · w "J" // w "I") · (next "E" · give Given.empty // not_next "E" · vec (r Row.template_arg)) · w "E" · made Tag.TemplateArgArgPack) Rule.done
+    // (w "J" // w "I") · (next "E" · give Given.empty // not_next "E" · vec (r Row.template_arg)) · w "E" · made Tag.TemplateArgArgPack) Rule.done
 -- <expression> ::= the alternatives of 5.1.6, those with a word of their own first
 rule Row.expression =
     (w "pp_" · commit · e · made Tag.ExpressionPrefixInc // w "mm_" · commit · e · made Tag.ExpressionPrefixDec // calls // casts // members
