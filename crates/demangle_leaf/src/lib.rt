@@ -11,3 +11,6 @@ pub use context::ParseContext;
 pub use depth::{Depth, hidden};
 pub use readers::{read_cv_qualifiers, read_source_name, read_substitution};
 pub use rows::{cv_qualifiers, identifier, seq_id, source_name, substitution, well_known_component};
+
+#[cfg(test)]
+mod tests;
