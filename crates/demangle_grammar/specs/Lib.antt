@@ -1,2 +1,12 @@
 pub mod CallText
 pub mod Lines
+pub mod Rule
+pub mod Items
+pub mod Rows
+pub mod Tree
+pub mod Reading
+pub mod First
+pub mod Fits
+pub mod Code
+pub mod Seen
+pub mod Laws

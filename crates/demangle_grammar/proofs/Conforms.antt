@@ -1,0 +1,67 @@
+-- What is compared of a reading of given bytes.
+use Rattle.std.specs.Prelude.{◌≡◌, ℕ, ◌&&◌, ◌||◌, nat_le, Bool, false, zero, suc, List, [], ◌∷◌}
+use Rattle.std.proofs.Common.{ap, ◌∙◌, arith}
+use Rattle.demangle_tree.specs.Table.{Entry, count}
+use Rattle.demangle_text.specs.Kind.{Cause}
+use Rattle.demangle_tree.specs.Core.{Core, Which, N, U}
+use Rattle.demangle_grammar.specs.Rule.{Row}
+use Rattle.demangle_grammar.specs.Tree.{Tree, core, nil}
+use Rattle.demangle_grammar.specs.Reading.{Answer, Yes, No, Deep, Measured, measure_from, enough, read_all}
+use Rattle.demangle_grammar.specs.First.{takes_row, first, idle}
+use Rattle.demangle_grammar.specs.Laws.{from, read, reach, components_read}
+use Rattle.demangle_grammar.proofs.Limits.{whole}
+
+-- the index behind it, the tree, and how many components there are in each list; or the cause of the failure
+pub data Outcome : Type 0 where
+  Read : (stop : ℕ) → Core → (numbered others : ℕ) → Outcome
+  Refused : Cause → Outcome
+  TooDeep : Outcome
+
+abbrev pub outcome : Answer Tree → Outcome
+outcome (Yes s a) = Read s.at (core a) (count N s.entries) (count U s.entries)
+outcome (No h c) = Refused c
+outcome Deep = TooDeep
+
+-- without a limit, with the conversion flag, from the first byte, with no entries
+pub record Reads (row : Row) (conv : Bool) (bytes : List ℕ) (o : Outcome) (n : ℕ) : Type 0 where
+  pub answer : outcome (read_all row conv (from bytes)) ≡ o
+  pub deepest : reach 0 row conv (from bytes) ≡ n
+
+-- under a limit, from a level
+abbrev pub ReadsUnder : (limit level : ℕ) → Row → Bool → List ℕ → Outcome → Type 0
+ReadsUnder limit level row conv bytes o = outcome (read limit level row conv (from bytes)) ≡ o
+
+abbrev pub told : Measured → Outcome × ℕ
+told m = (outcome m.answer, m.levels)
+
+-- both are computed in one go
+pub by_measure : {row : Row} {conv : Bool} {bytes : List ℕ} {o : Outcome} {n : ℕ} → told (measure_from (enough bytes) row conv (from bytes) nil) ≡ (o, n) → Reads row conv bytes o n
+by_measure {row} {conv} {bytes} {o} {n} e =
+    record {
+      answer = ap outcome (whole row conv (from bytes)).1 ∙ ap (λ p. p.0) e;
+      deepest = let h : (measure_from (enough bytes) row conv (from bytes) nil).levels ≡ n = ap (λ p. p.1) e in omega (arith, h);
+    }
+
+-- ---- the first bytes of a row
+abbrev pub in_ranges : List (ℕ × ℕ) → ℕ → Bool
+in_ranges [] b = false
+in_ranges (r ∷ rs) b = (nat_le r.0 b && nat_le b r.1) || in_ranges rs b
+
+-- a test at each of the first n bytes
+abbrev pub bytes_of : ℕ → (ℕ → Bool) → List Bool
+bytes_of zero f = []
+bytes_of (suc n) f = f n ∷ bytes_of n f
+
+-- whether the row takes a byte, with which it can begin, and how deep it goes where the next byte is another
+pub record Begins (row : Row) (t : Bool) (ranges : List (ℕ × ℕ)) (n : ℕ) : Type 0 where
+  pub takes : takes_row row ≡ t
+  pub first : bytes_of 256 (first row) ≡ bytes_of 256 (in_ranges ranges)
+  pub idle : idle row ≡ n
+
+-- ---- components
+abbrev pub entry : Which → Core → Entry
+entry w c = record { which = w; tree = c }
+
+-- the components of the tree that the row reads from these bytes, in order
+abbrev pub Completes : Row → List ℕ → List Entry → Type 0
+Completes row bytes es = components_read (read 96 0 row false (from bytes)) ≡ es

@@ -1,0 +1,121 @@
+-- The notation of the rows. An item is put before what is read after it: `a · b` is a and then b, `a // b` is a or else b.
+use Rattle.std.specs.Prelude.{ℕ, false, codes}
+use Prim.Native.String.{String}
+use Rattle.demangle_tree.specs.Core.{Tag}
+use Rattle.demangle_grammar.specs.Rule.{Class, Row, Eat, Cond, Make, Mark, Given, Leaf, Rule}
+
+abbrev pub Item : Type 0
+Item = Rule → Rule
+
+infixr 30 ◌·◌
+abbrev pub ◌·◌ : Item → Item → Item
+◌·◌ a b k = a (b k)
+
+infixr 20 ◌//◌
+abbrev pub ◌//◌ : Item → Item → Item
+◌//◌ a b k = Rule.alt (a Rule.done) (b Rule.done) k
+
+-- ---- words, bytes, numbers
+abbrev pub w : String → Item
+w s k = Rule.leaf (Leaf.word (codes s)) k
+
+abbrev pub eat : Eat → Item
+eat x k = Rule.leaf (Leaf.eat x) k
+
+abbrev pub these : String → Class
+these s = Class.these (codes s)
+
+abbrev pub num10 : Item
+num10 k = eat (Eat.numeral 10 false) k
+
+abbrev pub give : Given → Item
+give c k = eat (Eat.give c) k
+
+-- ---- conditions
+abbrev pub need : Cond → Item
+need c k = Rule.leaf (Leaf.check c) k
+
+abbrev pub next : String → Item
+next s k = need (Cond.next (these s)) k
+
+abbrev pub not_next : String → Item
+not_next s k = need (Cond.not_next (these s)) k
+
+abbrev pub more : ℕ → Item
+more n k = need (Cond.more n) k
+
+abbrev pub fail : Item
+fail k = need Cond.never k
+
+abbrev pub nothing : Item
+nothing k = k
+
+-- ---- rows, repetitions, groups
+abbrev pub commit : Item
+commit k = Rule.commit k
+
+abbrev pub r : Row → Item
+r x k = Rule.call false x k
+
+abbrev pub t : Item
+t k = r Row.type_handle k
+
+abbrev pub e : Item
+e k = r Row.expression k
+
+abbrev pub many : Item → Item
+many x k = Rule.star (x Rule.done) k
+
+-- a number n, and then the item over just n bytes
+abbrev pub sized : Item → Item
+sized x k = Rule.block (x Rule.done) k
+
+abbrev pub apart : Make → Item → Item
+apart m x k = Rule.part m (x Rule.done) k
+
+-- ---- fields
+abbrev pub make : Make → Item
+make m k = Rule.leaf (Leaf.make m) k
+
+abbrev pub made : Tag → Item
+made t k = make (Make.one t) k
+
+abbrev pub present : Item → Item
+present x k = apart (Make.one Tag.Present) x k
+
+abbrev pub absent : Item
+absent k = give Given.missing k
+
+abbrev pub opt : Item → Item
+opt x k = (present x // absent) k
+
+abbrev pub flagged : String → Item
+flagged s k = (w s · give Given.set // give Given.unset) k
+
+abbrev pub vec : Item → Item
+vec x k = apart (Make.one Tag.Several) (many x) k
+
+abbrev pub vec1 : Item → Item
+vec1 x k = apart (Make.one Tag.Several) (x · many x) k
+
+-- 0 without a number, else the number and 1
+abbrev pub index : Item
+index k = apart Make.index (num10 // nothing) k
+
+-- ---- components
+abbrev pub plus : Mark → Item
+plus m k = Rule.leaf (Leaf.mark m) k
+
+-- the node just read is a type that becomes a numbered component, with the reference to it in its place
+abbrev pub type_component : Tag → Item
+type_component x k = (made x · made Tag.SubstitutableTypeNode · plus Mark.numbered') k
+
+-- a prefix: numbered, but for the last of a nested name
+abbrev pub prefix_component : Tag → Item
+prefix_component x k = (made x · made Tag.SubstitutablePrefix · plus Mark.by_end) k
+
+abbrev pub template_component : Item
+template_component k = (made Tag.UnscopedTemplateName · made Tag.SubstitutableUnscopedTemplateName · plus Mark.numbered') k
+
+abbrev pub unresolved_component : Tag → Item
+unresolved_component x k = (made x · made Tag.SubstitutableUnresolvedType · plus Mark.numbered') k
