@@ -1,3 +1,4 @@
 pub mod Context
 pub mod Reads
 pub mod Hidden
+pub mod Letters

@@ -1,9 +1,17 @@
 //! What no clause says: answers that come from outside, and that each call is met by some input.
 
-use crate::{ParseContext, read_cv_qualifiers, read_source_name, read_substitution};
+use crate::{
+    ParseContext, read_abi_tag, read_call_offset, read_clone_type_identifier, read_cv_qualifiers, read_discriminator,
+    read_function_param, read_identifier, read_number, read_nv_offset, read_seq_id, read_source_name, read_substitution,
+    read_template_param, read_unnamed_type_name, read_v_offset,
+};
 use demangle_text::{Error, IndexStr, ParseOptions, Result};
-use demangle_tree::{CvQualifiers, Identifier, SourceName, Substitution, SubstitutionTable};
+use demangle_tree::{
+    AbiTag, CallOffset, CloneTypeIdentifier, CvQualifiers, Discriminator, FunctionParam, Identifier, NvOffset, SeqId,
+    SourceName, Substitution, SubstitutionTable, TemplateParam, UnnamedTypeName, VOffset,
+};
 use demangle_vocab::WellKnownComponent;
+use std::test::Fail;
 
 #[test]
 fn source_names_are_read_as_the_grammar_says(rt: HostRuntime) {
@@ -98,16 +106,20 @@ fn a_level_at_the_limit_is_refused(rt: HostRuntime) {
     let mut ctx = ParseContext::new(ParseOptions::default().recursion_limit(2));
     assert!(rt; ctx.enter().is_ok());
     assert_eq!(rt; ctx.recursion_level(), 1);
-    assert_eq!(rt; ctx.enter(), Err(Error::TooMuchRecursion));
+    assert!(rt; ctx.enter().is_err());
     assert_eq!(rt; ctx.recursion_level(), 1);
-    let refused = read_cv_qualifiers(&mut ctx, IndexStr::new(b"K"));
-    assert!(rt; matches!(refused, Err(Error::TooMuchRecursion)));
+    match read_cv_qualifiers(&mut ctx, IndexStr::new(b"K")) {
+        Ok(_) => assert!(rt; false),
+        Err(error) => assert_eq!(rt; error, Error::TooMuchRecursion),
+    }
     if ctx.recursion_level() > 0 {
         ctx.leave();
     }
     assert_eq!(rt; ctx.recursion_level(), 0);
-    let deeper = read_source_name(&mut ctx, IndexStr::new(b"1a"));
-    assert!(rt; matches!(deeper, Err(Error::TooMuchRecursion)));
+    match read_source_name(&mut ctx, IndexStr::new(b"1a")) {
+        Ok(_) => assert!(rt; false),
+        Err(error) => assert_eq!(rt; error, Error::TooMuchRecursion),
+    }
 }
 
 #[test]
@@ -117,4 +129,52 @@ fn the_conversion_flag_is_off_at_first(rt: HostRuntime) {
     assert!(rt; !ctx.set_in_conversion(true));
     assert!(rt; ctx.in_conversion());
     assert!(rt; ctx.set_in_conversion(false));
+}
+
+#[test]
+fn names_and_numbers_are_read(rt: HostRuntime) -> std::result::Result<(), Fail> {
+    let mut ctx = ParseContext::new(ParseOptions::default());
+    let (number, _) = read_number(&mut ctx, IndexStr::new(b"n12_"))?;
+    assert_eq!(rt; number, -12);
+    let (SeqId(number), _) = read_seq_id(&mut ctx, IndexStr::new(b"1Z_"))?;
+    assert_eq!(rt; number, 71);
+    let (Identifier { start, end }, _) = read_identifier(&mut ctx, IndexStr::new(b"a.b-"))?;
+    assert_eq!(rt; (start, end), (0, 3));
+    let (CloneTypeIdentifier { start, end }, _) = read_clone_type_identifier(&mut ctx, IndexStr::new(b"a.b"))?;
+    assert_eq!(rt; (start, end), (0, 1));
+    let (AbiTag(SourceName(Identifier { start, end })), _) = read_abi_tag(&mut ctx, IndexStr::new(b"B5cxx11"))?;
+    assert_eq!(rt; (start, end), (2, 7));
+    Ok(())
+}
+
+#[test]
+fn offsets_are_read(rt: HostRuntime) -> std::result::Result<(), Fail> {
+    let mut ctx = ParseContext::new(ParseOptions::default());
+    let (NvOffset(offset), _) = read_nv_offset(&mut ctx, IndexStr::new(b"n8_"))?;
+    assert_eq!(rt; offset, -8);
+    let (VOffset(offset, virtual_offset), _) = read_v_offset(&mut ctx, IndexStr::new(b"0_n24_"))?;
+    assert_eq!(rt; (offset, virtual_offset), (0, -24));
+    match read_call_offset(&mut ctx, IndexStr::new(b"v0_n24_1f"))? {
+        (CallOffset::Virtual(VOffset(0, -24)), rest) => assert!(rt; rest.eq_bytes(b"1f")),
+        _ => assert!(rt; false),
+    }
+    Ok(())
+}
+
+#[test]
+fn parameters_are_numbered_from_zero(rt: HostRuntime) -> std::result::Result<(), Fail> {
+    let mut ctx = ParseContext::new(ParseOptions::default());
+    let (TemplateParam(first), _) = read_template_param(&mut ctx, IndexStr::new(b"T_"))?;
+    let (TemplateParam(last), _) = read_template_param(&mut ctx, IndexStr::new(b"T9223372036854775807_"))?;
+    assert_eq!(rt; (first, last), (0, 9223372036854775808));
+    let (FunctionParam(level, qualifiers, index), _) = read_function_param(&mut ctx, IndexStr::new(b"fL2pK1_"))?;
+    assert_eq!(rt; (level, qualifiers.const_, index), (2, true, Some(2)));
+    let (FunctionParam(_, _, this), _) = read_function_param(&mut ctx, IndexStr::new(b"fpT"))?;
+    assert_eq!(rt; this, None);
+    let (Discriminator(short), _) = read_discriminator(&mut ctx, IndexStr::new(b"_5"))?;
+    let (Discriminator(long), _) = read_discriminator(&mut ctx, IndexStr::new(b"__12_"))?;
+    assert_eq!(rt; (short, long), (5, 12));
+    let (UnnamedTypeName(number), _) = read_unnamed_type_name(&mut ctx, IndexStr::new(b"Ut0_"))?;
+    assert_eq!(rt; number, Some(0));
+    Ok(())
 }
