@@ -5,6 +5,8 @@ mod call;
 pub mod error;
 mod options;
 mod symbol;
+#[cfg(test)]
+mod tests;
 
 pub use demangle_text::ParseOptions;
 pub use options::DemangleOptions;

@@ -9,6 +9,8 @@ mod output;
 mod run;
 mod standard;
 mod status;
+#[cfg(test)]
+mod tests;
 
 use crate::run::run;
 use crate::standard::{StdSink, StdSource};
