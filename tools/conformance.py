@@ -10,7 +10,8 @@ FIRST_AND_IDLE is a JSON object: for each row its first bytes and how deep it go
 
 From the readings some are chosen, so that each node of a tree, each kind of refusal and both sides of a limit are there for each
 row. Each becomes a declaration that is proved by computation, in crates/demangle_grammar/proofs/ReadRows*.antt, ReadNames*.antt and
-Firsts.antt; what no reading tells is written out below and becomes ByHand.antt. It is run by hand; what it writes is committed.
+Firsts.antt; what no reading tells is written out below and becomes ByHand.antt. It is run by hand, and `rt tidy` after it; what they
+write is committed.
 """
 import collections
 import json
@@ -19,7 +20,7 @@ import os
 import re
 import sys
 
-FOLDER = os.environ.get("FOLDER") or os.path.join(os.path.dirname(os.path.abspath(__file__)), "..", "crates", "demangle_grammar", "proofs")
+FOLDER = os.path.join(os.path.dirname(os.path.abspath(__file__)), "..", "crates", "demangle_grammar", "proofs")
 FILE_LINES = 480
 
 OPERATORS = """New NewArray Delete DeleteArray UnaryPlus Neg AddressOf Deref BitNot Add Sub Mul Div Rem BitAnd BitOr BitXor Assign

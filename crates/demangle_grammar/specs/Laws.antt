@@ -1,13 +1,14 @@
 -- What holds of each reading. A row is read from a state, which holds the index, the bytes that are left and the entries of
 -- both lists so far; `nil` says that no parts were read before it.
 use Rattle.std.specs.Prelude.{◌≡◌, ◌≢◌, ℕ, suc, false, ◌∷◌, codes, ◌+◌, ◌-◌, ◌<◌, ◌≤◌, ◌↔◌, Bool, true, List, [], ◌++◌, length}
-use Rattle.demangle_tree.specs.Table.{Entry, cut, sizes}
+use Rattle.demangle_tree.specs.Table.{Entry, cut, sizes, Table}
 use Rattle.demangle_tree.specs.Core.{Core, end, node, place, ◌⊕◌, Tag, N, U}
 use Rattle.demangle_grammar.specs.Rule.{Row}
 use Rattle.demangle_grammar.specs.Tree.{Tree, trees, cores, reference, core, nil, spell, components, Sound, RefersTo, ReferBack}
 use Rattle.demangle_grammar.specs.Rows.{rule}
 use Rattle.demangle_grammar.specs.Reading.{State, Answer, Yes, No, Deep, read_from, read_all, levels_of}
 use Rattle.demangle_grammar.specs.Fits.{Fits}
+use Rattle.demangle_grammar.specs.Sound.{IsSoundFor}
 use Rattle.demangle_grammar.specs.First.{takes_row, first, idle, Misses}
 use Rattle.demangle_grammar.specs.Code.{Here, Found, joined, cread}
 use Rattle.demangle_grammar.specs.Seen.{seen, replied}
@@ -41,6 +42,10 @@ IsSound = (left : ℕ) (row : Row) (conv : Bool) (s t : State) (tree : Tree) →
 abbrev pub RefersBack : Type 0
 RefersBack = (left : ℕ) (row : Row) (conv : Bool) (s t : State) (tree : Tree) → Reads left row conv s t tree → ReferBack [] s.entries →
     ReferBack [] t.entries × RefersTo t.entries (core tree)
+
+-- What is sound for an input is sound in its references.
+abbrev pub SoundRefers : Type 0
+SoundRefers = (input : List ℕ) (table : Table) (tree : Core) → IsSoundFor input table tree → ReferBack [] table × RefersTo table tree
 
 -- ---- two names
 -- from the first of these bytes, with no entries

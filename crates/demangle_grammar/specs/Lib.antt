@@ -7,6 +7,7 @@ pub mod Tree
 pub mod Reading
 pub mod First
 pub mod Fits
+pub mod Sound
 pub mod Code
 pub mod Seen
 pub mod Laws

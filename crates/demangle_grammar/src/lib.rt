@@ -2,7 +2,7 @@
 //! is a law, and its contract is the statement. docs/GRAMMAR.md leads through the definitions.
 #![tactic(auto)]
 
-ghost use Rattle.demangle_grammar.specs.Laws.{Spells, GoesOn, IsFit, AddsComponents, IsSound, RefersBack, Ends, HasNoLimit, IsLimited, IsIdle, ReadsCores, ReadsCode, CompletesPointer, CompletesPrefixes, GivesBack, TakesByte, NoLonger, KeepsIndex};
+ghost use Rattle.demangle_grammar.specs.Laws.{Spells, GoesOn, IsFit, AddsComponents, IsSound, RefersBack, SoundRefers, Ends, HasNoLimit, IsLimited, IsIdle, ReadsCores, ReadsCode, CompletesPointer, CompletesPrefixes, GivesBack, TakesByte, NoLonger, KeepsIndex};
 
 /// A tree that was read spells just the bytes that were read.
 pub fn spells()
@@ -32,6 +32,11 @@ pub fn is_sound()
 /// Entries refer to earlier entries alone, and the core that was read to entries that are there.
 pub fn refers_back()
     ensures { RefersBack }
+{}
+
+/// A node and a table that are sound for an input are sound in their references.
+pub fn sound_refers()
+    ensures { SoundRefers }
 {}
 
 /// The components of the tree of `P1a` are the class type and then the pointer.
