@@ -1,5 +1,6 @@
 pub mod Core
 pub mod Same
+pub mod Fields
 pub mod Table
 pub mod TreeLeaves
 pub mod TreeNodes
