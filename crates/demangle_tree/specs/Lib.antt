@@ -5,5 +5,7 @@ pub mod Table
 pub mod TreeLeaves
 pub mod TreeNodes
 pub mod TreeEntries
+pub mod Lookups
+pub mod LookupsOf
 pub mod View
 pub mod TableOf

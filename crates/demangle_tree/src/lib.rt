@@ -4,9 +4,11 @@
 mod accessors;
 mod entries;
 mod laws;
+mod leaf_names;
 mod leaves;
 mod nodes;
 mod same_leaves;
+mod steps;
 mod table;
 
 pub use entries::{ArrayType, ClassEnumType, Decltype, ExceptionSpec, FunctionType, LeafName, Prefix, Substitutable, TypeNode, UnresolvedType, VectorType};

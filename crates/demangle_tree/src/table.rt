@@ -1,6 +1,6 @@
 //! The substitution table.
 
-ghost use Rattle.std.specs.Prelude.{◌≡◌, ℕ, ◌-◌, ◌≤◌, ◌<◌, List, length, map, min, slice_get, IfOk, IfErr, OnOk, OnErr, IfSome, IfNone, IsTrue, Some, option_map, ◌↔◌};
+ghost use Rattle.std.specs.Prelude.{◌≡◌, ℕ, ◌+◌, ◌-◌, ◌≤◌, ◌<◌, List, length, map, min, slice_get, IfOk, IfErr, OnOk, OnErr, IfSome, IfNone, IsTrue, Some, option_map, ◌↔◌};
 ghost use Rattle.std.specs.Slice.Iter.{iter_rest};
 ghost use Rattle.demangle_tree.specs.Core.{N, U};
 ghost use Rattle.demangle_tree.specs.Table.{added, cut, empty_table, entry_at, listed, numbered, size, sizes, type_behind};
@@ -160,6 +160,14 @@ impl SubstitutionTable {
         ensures { result ≡ sizes (table_of self.now) }
     {
         (self.substitutions.len(), self.non_substitutions.len())
+    }
+
+    /// How many components there are in both lists.
+    #[tactic(auto, using(crate::proofs::Calls::calls))]
+    pub(crate) fn entry_count(&self) -> usize
+        ensures { result ≡ size N (table_of self.now) + size U (table_of self.now) }
+    {
+        self.substitutions.len() + self.non_substitutions.len()
     }
 
     /// Takes the last numbered component out; `None` exactly where there is none.
