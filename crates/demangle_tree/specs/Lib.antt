@@ -2,6 +2,7 @@ pub mod Core
 pub mod Same
 pub mod Fields
 pub mod Table
+pub mod Sound
 pub mod TreeLeaves
 pub mod TreeNodes
 pub mod TreeEntries

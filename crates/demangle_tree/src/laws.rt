@@ -9,7 +9,11 @@ use crate::table::SubstitutionTable;
 /// Two components inserted, one in each list, and given back by a cut to the lengths before: the table is as it was,
 /// whether or not there was memory for them.
 #[tactic(auto, using(crate::proofs::Cuts::cuts))]
-pub fn insert_and_cut_back(subs: &mut SubstitutionTable, numbered: Substitutable, other: Substitutable)
+pub fn insert_and_cut_back(
+    subs: &mut SubstitutionTable,
+    numbered: Substitutable,
+    other: Substitutable,
+)
     ensures { table_of subs.new ≡ table_of subs.old }
 {
     let lengths = subs.lengths();

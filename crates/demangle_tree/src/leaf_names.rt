@@ -9,20 +9,20 @@ ghost use Rattle.demangle_tree.specs.LookupsOf.{next_of, tree_of_leaf_name};
 ghost use Rattle.demangle_tree.specs.Core.{N, U};
 ghost use Rattle.demangle_tree.specs.Table.{size};
 ghost use Rattle.demangle_tree.specs.TableOf.{table_of};
-ghost use Rattle.demangle_tree.specs.TreeLeaves.{tree_of_well_known_component, tree_of_nested_name, tree_of_prefix_handle, tree_of_template_template_param_handle, tree_of_type_handle, tree_of_unqualified_name, tree_of_unresolved_type_handle, tree_of_unscoped_name, tree_of_unscoped_template_name, tree_of_unscoped_template_name_handle};
+ghost use Rattle.demangle_tree.specs.TreeLeaves.{tree_of_well_known_component, tree_of_nested_name, tree_of_prefix_handle, tree_of_template_template_param_handle, tree_of_type_handle, tree_of_unqualified_name, tree_of_unresolved_type_handle, tree_of_unscoped_name, tree_of_unscoped_template_name, tree_of_unscoped_template_name_handle, tree_of_non_substitution, tree_of_builtin_type, tree_of_qualified_builtin, tree_of_closure_type_name, tree_of_data_member_prefix};
 ghost use Rattle.demangle_tree.specs.TreeNodes.{tree_of_name, tree_of_local_name};
 ghost use Rattle.demangle_tree.specs.TreeEntries.{tree_of_prefix, tree_of_class_enum_type, tree_of_type_node, tree_of_substitutable};
 
-use demangle_vocab::WellKnownComponent;
-
 use crate::entries::{ClassEnumType, LeafName, Prefix, Substitutable, TypeNode};
 use crate::leaves::{
-    NestedName, PrefixHandle, TemplateTemplateParamHandle, TypeHandle, UnqualifiedName, UnresolvedTypeHandle, UnscopedName,
-    UnscopedTemplateName, UnscopedTemplateNameHandle,
+    BuiltinType, ClosureTypeName, DataMemberPrefix, NestedName, NonSubstitution, PrefixHandle,
+    QualifiedBuiltin, TemplateTemplateParamHandle, TypeHandle, UnqualifiedName,
+    UnresolvedTypeHandle, UnscopedName, UnscopedTemplateName, UnscopedTemplateNameHandle,
 };
 use crate::nodes::{LocalName, Name};
 use crate::steps::LeafStep;
 use crate::table::SubstitutionTable;
+use demangle_vocab::WellKnownComponent;
 
 fn leaf_of_well_known_component<'a>(node: &'a WellKnownComponent) -> LeafStep<'a>
     ensures { next_of result ≡ leaf_step (tree_of_well_known_component node.now) }
@@ -57,7 +57,9 @@ fn leaf_of_template_template_param_handle<'a>(node: &'a TemplateTemplateParamHan
     ensures { next_of result ≡ leaf_step (tree_of_template_template_param_handle node.now) }
 {
     match node {
-        TemplateTemplateParamHandle::WellKnown(component) => leaf_of_well_known_component(component),
+        TemplateTemplateParamHandle::WellKnown(component) => leaf_of_well_known_component(
+            component,
+        ),
         TemplateTemplateParamHandle::BackReference(idx) => LeafStep::Numbered(*idx),
     }
 }
@@ -86,7 +88,9 @@ fn leaf_of_unqualified_name<'a>(node: &'a UnqualifiedName) -> LeafStep<'a>
 {
     match node {
         UnqualifiedName::Source(name, _) => LeafStep::Answer(LeafName::SourceName(name)),
-        UnqualifiedName::LocalSourceName(name, _, _) => LeafStep::Answer(LeafName::SourceName(name)),
+        UnqualifiedName::LocalSourceName(name, _, _) => LeafStep::Answer(LeafName::SourceName(
+            name,
+        )),
         UnqualifiedName::UnnamedType(name, _) => LeafStep::Answer(LeafName::UnnamedType(name)),
         UnqualifiedName::ClosureType(name, _) => LeafStep::Answer(LeafName::Closure(name)),
         UnqualifiedName::Operator(_, _) => LeafStep::Nothing,
@@ -109,6 +113,40 @@ fn leaf_of_unscoped_template_name<'a>(node: &'a UnscopedTemplateName) -> LeafSte
     leaf_of_unscoped_name(&node.0)
 }
 
+fn leaf_of_non_substitution<'a>(node: &'a NonSubstitution) -> LeafStep<'a>
+    ensures { next_of result ≡ leaf_step (tree_of_non_substitution node.now) }
+{
+    LeafStep::Other(node.0)
+}
+
+fn leaf_of_builtin_type<'a>(node: &'a BuiltinType) -> LeafStep<'a>
+    ensures { next_of result ≡ leaf_step (tree_of_builtin_type node.now) }
+{
+    match node {
+        BuiltinType::Standard(_) => LeafStep::Nothing,
+        BuiltinType::Parametric(_) => LeafStep::Nothing,
+        BuiltinType::Extension(_) => LeafStep::Nothing,
+    }
+}
+
+fn leaf_of_qualified_builtin<'a>(node: &'a QualifiedBuiltin) -> LeafStep<'a>
+    ensures { next_of result ≡ leaf_step (tree_of_qualified_builtin node.now) }
+{
+    LeafStep::Nothing
+}
+
+fn leaf_of_closure_type_name<'a>(node: &'a ClosureTypeName) -> LeafStep<'a>
+    ensures { next_of result ≡ leaf_step (tree_of_closure_type_name node.now) }
+{
+    LeafStep::Answer(LeafName::Closure(node))
+}
+
+fn leaf_of_data_member_prefix<'a>(node: &'a DataMemberPrefix) -> LeafStep<'a>
+    ensures { next_of result ≡ leaf_step (tree_of_data_member_prefix node.now) }
+{
+    LeafStep::Answer(LeafName::SourceName(&node.0))
+}
+
 fn leaf_or_prefix<'a>(name: &'a UnqualifiedName, prefix: &'a PrefixHandle) -> LeafStep<'a>
     ensures { next_of result ≡ else_next (leaf_step (tree_of_unqualified_name name.now)) (leaf_step (tree_of_prefix_handle prefix.now)) }
 {
@@ -125,7 +163,9 @@ fn leaf_of_nested_name<'a>(node: &'a NestedName) -> LeafStep<'a>
         NestedName::Unqualified(_, _, Some(prefix), name) => leaf_or_prefix(name, prefix),
         NestedName::Unqualified(_, _, None, name) => leaf_of_unqualified_name(name),
         NestedName::Template(_, _, prefix) => leaf_of_prefix_handle(prefix),
-        NestedName::UnqualifiedExplicitObject(Some(prefix), name, _) => leaf_or_prefix(name, prefix),
+        NestedName::UnqualifiedExplicitObject(Some(prefix), name, _) => leaf_or_prefix(
+            name, prefix,
+        ),
         NestedName::UnqualifiedExplicitObject(None, name, _) => leaf_of_unqualified_name(name),
         NestedName::TemplateExplicitObject(prefix, _) => leaf_of_prefix_handle(prefix),
     }
@@ -377,5 +417,50 @@ impl<'a> GetLeafName<'a> for Substitutable {
         ensures { option_map tree_of_leaf_name result ≡ leaf_name (table_of subs.now) (tree_of_substitutable self.now) }
     {
         follow_leaf(leaf_of_substitutable(self), subs)
+    }
+}
+
+impl<'a> GetLeafName<'a> for NonSubstitution {
+    #[tactic(auto, unfolding(crate::specs::Lookups::leaf_name))]
+    fn get_leaf_name(&'a self, subs: &'a SubstitutionTable) -> Option<LeafName<'a>>
+        ensures { option_map tree_of_leaf_name result ≡ leaf_name (table_of subs.now) (tree_of_non_substitution self.now) }
+    {
+        follow_leaf(leaf_of_non_substitution(self), subs)
+    }
+}
+
+impl<'a> GetLeafName<'a> for BuiltinType {
+    #[tactic(auto, unfolding(crate::specs::Lookups::leaf_name))]
+    fn get_leaf_name(&'a self, subs: &'a SubstitutionTable) -> Option<LeafName<'a>>
+        ensures { option_map tree_of_leaf_name result ≡ leaf_name (table_of subs.now) (tree_of_builtin_type self.now) }
+    {
+        follow_leaf(leaf_of_builtin_type(self), subs)
+    }
+}
+
+impl<'a> GetLeafName<'a> for QualifiedBuiltin {
+    #[tactic(auto, unfolding(crate::specs::Lookups::leaf_name))]
+    fn get_leaf_name(&'a self, subs: &'a SubstitutionTable) -> Option<LeafName<'a>>
+        ensures { option_map tree_of_leaf_name result ≡ leaf_name (table_of subs.now) (tree_of_qualified_builtin self.now) }
+    {
+        follow_leaf(leaf_of_qualified_builtin(self), subs)
+    }
+}
+
+impl<'a> GetLeafName<'a> for ClosureTypeName {
+    #[tactic(auto, unfolding(crate::specs::Lookups::leaf_name))]
+    fn get_leaf_name(&'a self, subs: &'a SubstitutionTable) -> Option<LeafName<'a>>
+        ensures { option_map tree_of_leaf_name result ≡ leaf_name (table_of subs.now) (tree_of_closure_type_name self.now) }
+    {
+        follow_leaf(leaf_of_closure_type_name(self), subs)
+    }
+}
+
+impl<'a> GetLeafName<'a> for DataMemberPrefix {
+    #[tactic(auto, unfolding(crate::specs::Lookups::leaf_name))]
+    fn get_leaf_name(&'a self, subs: &'a SubstitutionTable) -> Option<LeafName<'a>>
+        ensures { option_map tree_of_leaf_name result ≡ leaf_name (table_of subs.now) (tree_of_data_member_prefix self.now) }
+    {
+        follow_leaf(leaf_of_data_member_prefix(self), subs)
     }
 }

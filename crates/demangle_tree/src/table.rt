@@ -8,11 +8,10 @@ ghost use Rattle.demangle_tree.specs.TreeLeaves.{tree_of_type_handle};
 ghost use Rattle.demangle_tree.specs.TreeEntries.{tree_of_substitutable, tree_of_type_node};
 ghost use Rattle.demangle_tree.specs.View.{Climb, Rise, Rise-prop, entry_trees};
 
-use std::alloc::Global;
-use std::slice::Iter;
-
 use crate::entries::{Substitutable, TypeNode};
 use crate::leaves::TypeHandle;
+use std::alloc::Global;
+use std::slice::Iter;
 
 /// The components of a name in the order in which they were completed: the numbered ones, which `S_` and its like refer
 /// to, and the others. ABI section 5.1.10, `<substitution>`.
