@@ -4,7 +4,8 @@ use Rattle.std.specs.Prelude.{◌≡◌, ◌≢◌, ℕ, suc, false, ◌∷◌, 
 use Rattle.demangle_tree.specs.Table.{Entry, cut, sizes, Table}
 use Rattle.demangle_tree.specs.Core.{Core, end, node, place, ◌⊕◌, Tag, N, U}
 use Rattle.demangle_grammar.specs.Rule.{Row}
-use Rattle.demangle_grammar.specs.Tree.{Tree, trees, cores, reference, core, nil, spell, components, Sound, RefersTo, ReferBack}
+use Rattle.demangle_grammar.specs.Tree.{Tree, trees, cores, reference, core, nil, spell, components, Sound}
+use Rattle.demangle_tree.specs.Sound.{RefersTo, ReferBack, RefsSound}
 use Rattle.demangle_grammar.specs.Rows.{rule}
 use Rattle.demangle_grammar.specs.Reading.{State, Answer, Yes, No, Deep, read_from, read_all, levels_of}
 use Rattle.demangle_grammar.specs.Fits.{Fits}
@@ -45,7 +46,7 @@ RefersBack = (left : ℕ) (row : Row) (conv : Bool) (s t : State) (tree : Tree) 
 
 -- What is sound for an input is sound in its references.
 abbrev pub SoundRefers : Type 0
-SoundRefers = (input : List ℕ) (table : Table) (tree : Core) → IsSoundFor input table tree → ReferBack [] table × RefersTo table tree
+SoundRefers = (input : List ℕ) (table : Table) (tree : Core) → IsSoundFor input table tree → RefsSound table tree
 
 -- ---- two names
 -- from the first of these bytes, with no entries

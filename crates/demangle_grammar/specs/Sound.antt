@@ -4,7 +4,7 @@ use Rattle.demangle_tree.specs.Core.{Core, Tag, end, node, place, number, flag, 
 use Rattle.demangle_tree.specs.Table.{Entry, Table}
 use Rattle.demangle_grammar.specs.Rule.{Class}
 use Rattle.demangle_grammar.specs.Reading.{is_in}
-use Rattle.demangle_grammar.specs.Tree.{RefersTo, ReferBack}
+use Rattle.demangle_tree.specs.Sound.{RefersTo, ReferBack}
 use Rattle.demangle_grammar.specs.Fits.{AllOf, IsSome}
 
 -- the bytes from one index up to another

@@ -1,5 +1,6 @@
 -- Trees that were read: what they spell, their core, and their components.
 use Rattle.std.specs.Prelude.{◌⊎◌, ◌≡◌, ℕ, suc, ◌+◌, ◌<◌, List, [], ◌∷◌, ◌++◌, pos}
+use Rattle.demangle_tree.specs.Sound.{RefersTo}
 use Rattle.demangle_tree.specs.Core.{Core, end, node, place, number, flag, chosen, ref, mark, ◌⊕◌, Tag, Which, N, U}
 use Rattle.demangle_tree.specs.Table.{Entry, count}
 use Rattle.demangle_grammar.specs.Rule.{Make}
@@ -125,22 +126,6 @@ components (cat a b) = components a ++ components b
 components (over h a) = components a ++ adds h (core a)
 
 -- ---- references
--- each reference is to one of these components
-abbrev pub RefersTo : List Entry → Core → Type 0
-RefersTo e end = Unit {0}
-RefersTo e (node t c n) = RefersTo e c × RefersTo e n
-RefersTo e (place i j n) = RefersTo e n
-RefersTo e (number v n) = RefersTo e n
-RefersTo e (flag b n) = RefersTo e n
-RefersTo e (chosen t k n) = RefersTo e n
-RefersTo e (ref w k n) = (k < count w e) × RefersTo e n
-RefersTo e (mark i n) = RefersTo e n
-
--- each of the entries that come after e refers to those before it alone
-abbrev pub ReferBack : List Entry → List Entry → Type 0
-ReferBack e [] = Unit {0}
-ReferBack e (x ∷ xs) = RefersTo e x.tree × ReferBack (e ++ x ∷ []) xs
-
 -- the tree of an entry, or no tree
 abbrev pub IsOfEntry : Core → List Entry → Type 0
 IsOfEntry x [] = x ≡ end

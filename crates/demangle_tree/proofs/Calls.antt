@@ -46,7 +46,7 @@ module _ (ns us : List Substitutable) (ks : List ℕ) where
   other_inserted x paired rising =
       ap (λ l. woven 0 (entry_trees ns) l (ks ++ length ns ∷ [])) (map-append tree_of_substitutable us (x ∷ []))
       ∙ other_more 0 (length ns) (entry_trees ns) (entry_trees us) ks (tree_of_substitutable x) (as_many ns) rising
-          (paired ∙ sym (length-map us tree_of_substitutable))
+      (paired ∙ sym (length-map us tree_of_substitutable))
 
   pub cut_short : (a b : ℕ) → length ks ≡ length us → Rise 0 (length ns) ks
       → table_from (take a ns) (take b us) (map (min a) (take b ks)) ≡ cut (a, b) (table_from ns us ks)
@@ -57,7 +57,7 @@ module _ (ns us : List Substitutable) (ks : List ℕ) where
       ∙ ap (λ l. woven 0 (take a (entry_trees ns)) l (map (min a) (take b ks))) (sym (take-map tree_of_substitutable b us))
       ∙ ap (λ n. woven 0 (take a (entry_trees ns)) (take b (entry_trees us)) (map (min n) (take b ks))) whole
       ∙ sym (cut_woven a b 0 (length ns) (entry_trees ns) (entry_trees us) ks (as_many ns) rising
-          (paired ∙ sym (length-map us tree_of_substitutable)))
+      (paired ∙ sym (length-map us tree_of_substitutable)))
 
   pub numbered_size : size N (table_from ns us ks) ≡ length ns
   unfolding size table_from
@@ -148,7 +148,7 @@ module _ (ns us ms : List Substitutable) (ks : List ℕ) (x : Substitutable) (pa
   popped_rising =
       let low : min (length ms) (length ns) ≡ length ms = omega (arith, shorter_by_one) in
       subst (λ n. Rise 0 n (map (min (length ms)) ks)) low
-          (subst (λ l. Rise 0 (min (length ms) (length ns)) (map (min (length ms)) l)) (whole_taken (length ks) ks refl) (rise_down (length ms) (length ks) (length ns) ks rising))
+      (subst (λ l. Rise 0 (min (length ms) (length ns)) (map (min (length ms)) l)) (whole_taken (length ks) ks refl) (rise_down (length ms) (length ks) (length ns) ks rising))
 
   pub popped_paired : length (map (min (length ms)) ks) ≡ length us
   popped_paired = length-map ks (min (length ms)) ∙ paired

@@ -83,3 +83,9 @@ cut_cut a b c h k =
     let n : count N a ≤ count N b = subst (λ t. count N t ≤ count N b) h (shrinks b N (count N a) (count U a)) in
     let u : count U a ≤ count U b = subst (λ t. count U t ≤ count U b) h (shrinks b U (count N a) (count U a)) in
     sym (again c (count N a) (count U a) (count N b) (count U b) n u) ∙ ap (first_of (count N a) (count U a)) k ∙ h
+
+-- where a cut gives one table back, it gives it back behind another entry too
+pub cut_again : (w : Which) (x : Core) (a b : Table) → cut (sizes a) b ≡ a → cut (sizes a) (added w x b) ≡ a
+cut_again w x a b h = cut_cut a b (added w x b) h (cut_added w x b)
+
+pub ruleset cuts = (cut_same, cut_added, cut_again)

@@ -532,4 +532,3 @@ pub ruleset parts_local_name = (local_name_relative, local_name_default)
 pub ruleset parts_special_name = (special_name_virtual_table, special_name_vtt, special_name_typeinfo, special_name_typeinfo_name, special_name_virtual_override_thunk, special_name_virtual_override_thunk_covariant, special_name_guard, special_name_guard_temporary, special_name_construction_vtable, special_name_typeinfo_function, special_name_tls_init, special_name_tls_wrapper, special_name_java_resource, special_name_transaction_clone, special_name_non_transaction_clone)
 
 pub ruleset parts_fold_expr = (fold_expr_unary_left, fold_expr_unary_right, fold_expr_binary_left, fold_expr_binary_right)
-

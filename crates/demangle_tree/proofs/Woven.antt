@@ -145,7 +145,7 @@ cut_behind i a k m c b first us ks u e low within le ce =
     let same_sum : k + c ≡ i + a = omega arith in
     let lower = map (min (i + a)) (take b ks) in
     ap (λ l. all_of N l ++ (entry U u ∷ woven k (take c (drop m first)) (take b us) (map (min (k + c)) (take b ks))))
-        (take_all a (take m first) (omega (arith, length_taken m first within)) ∙ sym (take_less m a first le))
+    (take_all a (take m first) (omega (arith, length_taken m first within)) ∙ sym (take_less m a first le))
     ∙ ap (λ l. all_of N (take m (take a first)) ++ (entry U u ∷ woven k l (take b us) (map (min (k + c)) (take b ks)))) (sym (drop_less m a c first (omega arith)))
     ∙ ap (λ n. all_of N (take m (take a first)) ++ (entry U u ∷ woven k (drop m (take a first)) (take b us) (map (min n) (take b ks)))) same_sum
     ∙ ap (λ n. all_of N (take n (take a first)) ++ (entry U u ∷ woven k (drop n (take a first)) (take b us) lower)) e

@@ -1,12 +1,12 @@
 //! The node types above names and expressions: types, prefixes, and the entries of the substitution table.
 
-use demangle_vocab::{RefQualifier, WellKnownComponent};
-
 use crate::leaves::{
-    BareFunctionType, ClosureTypeName, CvQualifiers, DataMemberPrefix, PointerToMemberType, PrefixHandle, SourceName, TemplateParam,
-    TemplateTemplateParam, TemplateTemplateParamHandle, TypeHandle, UnnamedTypeName, UnqualifiedName, UnscopedTemplateName,
+    BareFunctionType, ClosureTypeName, CvQualifiers, DataMemberPrefix, PointerToMemberType,
+    PrefixHandle, SourceName, TemplateParam, TemplateTemplateParam, TemplateTemplateParamHandle,
+    TypeHandle, UnnamedTypeName, UnqualifiedName, UnscopedTemplateName,
 };
 use crate::nodes::{Expression, Name, TemplateArgs};
+use demangle_vocab::{RefQualifier, WellKnownComponent};
 
 /// `decltype` of an expression; `IdExpression` where it names an entity. ABI section 5.1.5.5, `<decltype>`.
 #[derive(Drop)]

@@ -3,7 +3,10 @@
 //!
 //! A place is the index of its first byte and the index behind its last byte, both in the input that was read.
 
-use demangle_vocab::{ExplicitObjectParameter, RefQualifier, SimpleOperatorName, StandardBuiltinType, WellKnownComponent};
+use demangle_vocab::{
+    ExplicitObjectParameter, RefQualifier, SimpleOperatorName, StandardBuiltinType,
+    WellKnownComponent,
+};
 
 /// A number of the mangled name, from -(2^63 - 1) to 2^63 - 1. ABI section 5.1.2, `<number>`.
 pub type Number = isize;

@@ -3,12 +3,12 @@
 //! A type by value inside types multiplies in the proofs, so a field is boxed wherever one of these types would
 //! otherwise grow too large.
 
-use demangle_vocab::SimpleOperatorName;
-
 use crate::leaves::{
-    BareFunctionType, CallOffset, CloneSuffix, Discriminator, FunctionParam, NestedName, OperatorName, ResourceName,
-    SourceName, TemplateParam, TypeHandle, UnresolvedTypeHandle, UnscopedName, UnscopedTemplateNameHandle,
+    BareFunctionType, CallOffset, CloneSuffix, Discriminator, FunctionParam, NestedName,
+    OperatorName, ResourceName, SourceName, TemplateParam, TypeHandle, UnresolvedTypeHandle,
+    UnscopedName, UnscopedTemplateNameHandle,
 };
+use demangle_vocab::SimpleOperatorName;
 
 /// A whole mangled name. ABI section 5.1.2, `<mangled-name>`.
 #[cycle(nodes)]

@@ -1,6 +1,6 @@
 //! The substitution table.
 
-ghost use Rattle.std.specs.Prelude.{◌≡◌, ℕ, ◌-◌, ◌≤◌, ◌<◌, List, length, map, min, slice_get, IfOk, IfErr, OnOk, OnErr, IfSome, IfNone, IsTrue, Some, option_map, ◌↔◌};
+ghost use Rattle.std.specs.Prelude.{◌≡◌, ℕ, ◌+◌, ◌-◌, ◌≤◌, ◌<◌, List, length, map, min, slice_get, IfOk, IfErr, OnOk, OnErr, IfSome, IfNone, IsTrue, Some, option_map, ◌↔◌};
 ghost use Rattle.std.specs.Slice.Iter.{iter_rest};
 ghost use Rattle.demangle_tree.specs.Core.{N, U};
 ghost use Rattle.demangle_tree.specs.Table.{added, cut, empty_table, entry_at, listed, numbered, size, sizes, type_behind};
@@ -8,11 +8,10 @@ ghost use Rattle.demangle_tree.specs.TreeLeaves.{tree_of_type_handle};
 ghost use Rattle.demangle_tree.specs.TreeEntries.{tree_of_substitutable, tree_of_type_node};
 ghost use Rattle.demangle_tree.specs.View.{Climb, Rise, Rise-prop, entry_trees};
 
-use std::alloc::Global;
-use std::slice::Iter;
-
 use crate::entries::{Substitutable, TypeNode};
 use crate::leaves::TypeHandle;
+use std::alloc::Global;
+use std::slice::Iter;
 
 /// The components of a name in the order in which they were completed: the numbered ones, which `S_` and its like refer
 /// to, and the others. ABI section 5.1.10, `<substitution>`.
@@ -160,6 +159,14 @@ impl SubstitutionTable {
         ensures { result ≡ sizes (table_of self.now) }
     {
         (self.substitutions.len(), self.non_substitutions.len())
+    }
+
+    /// How many components there are in both lists.
+    #[tactic(auto, using(crate::proofs::Calls::calls))]
+    pub(crate) fn entry_count(&self) -> usize
+        ensures { result ≡ size N (table_of self.now) + size U (table_of self.now) }
+    {
+        self.substitutions.len() + self.non_substitutions.len()
     }
 
     /// Takes the last numbered component out; `None` exactly where there is none.

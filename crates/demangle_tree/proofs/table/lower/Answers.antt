@@ -5,7 +5,7 @@ use Rattle.demangle_tree.proofs.table.lower.Goals as goal
 pub loop-i-preserved : goal.loop-i-preserved
 loop-i-preserved c = record {
   within = omega arith;
-  lowered = lowered_step _ _ _ _ _ c.loop-i-test.true c.loop-i.invariant.within c.loop-i.invariant.lowered c.index.ensures c.if-index-most.true
+  lowered = lowered_step _ _ _ _ _ c.loop-i-test.true c.loop-i.invariant.within c.loop-i.invariant.lowered c.index.ensures c.if-index-most.true;
 }
 
 pub returns-else-index-most : goal.returns-else-index-most

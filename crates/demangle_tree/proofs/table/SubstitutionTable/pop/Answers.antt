@@ -23,9 +23,9 @@ returns-clause-shorter c =
 pub invariant_of-self-2-clause-paired : goal.invariant_of-self-2-clause-paired
 invariant_of-self-2-clause-paired c =
     rw (lowered _ _ c.pop.new.self _ c.lower.ensures c.len.ensures)
-        (popped_paired _ _ _ _ _ c.args.self.now.paired c.args.self.now.rising (last_of _ _ _ _ c.pop.ensures.items c.in_ok-last.was))
+    (popped_paired _ _ _ _ _ c.args.self.now.paired c.args.self.now.rising (last_of _ _ _ _ c.pop.ensures.items c.in_ok-last.was))
 
 pub invariant_of-self-2-clause-rising : goal.invariant_of-self-2-clause-rising
 invariant_of-self-2-clause-rising c =
     rw (lowered _ _ c.pop.new.self _ c.lower.ensures c.len.ensures)
-        (popped_rising _ _ _ _ _ c.args.self.now.paired c.args.self.now.rising (last_of _ _ _ _ c.pop.ensures.items c.in_ok-last.was))
+    (popped_rising _ _ _ _ _ c.args.self.now.paired c.args.self.now.rising (last_of _ _ _ _ c.pop.ensures.items c.in_ok-last.was))

@@ -1,0 +1,19 @@
+-- Following references.
+use Rattle.std.proofs.Common.{◌≡◌, refl, ap, ◌∙◌, sym, ℕ, zero, suc, false, true, ◌-◌, ◌<◌, arith, subst}
+use Rattle.demangle_tree.specs.Core.{Core}
+use Rattle.demangle_tree.specs.Table.{Table}
+use Rattle.demangle_tree.specs.Lookups.{Next, answer, nothing, at, after, answer_of, refers, resolve}
+
+module _ (step : Core → Next) (t : Table) where
+  -- what refers to nothing is answered
+  pub resolved : (more : ℕ) (s : Next) → refers s ≡ false → resolve step more t s ≡ answer_of s
+  resolved zero s h = refl
+  resolved (suc more) (answer c) h = resolved more (answer c) h
+  resolved (suc more) nothing h = resolved more nothing h
+  resolved (suc more) (at w k) h = cc
+
+  pub resolve_next : (more : ℕ) (s : Next) → 0 < more → resolve step (more - 1) t (after step t s) ≡ resolve step more t s
+  resolve_next zero s h = absurd (omega arith)
+  resolve_next (suc more) s h = let e : suc more - 1 ≡ more = omega arith in ap (λ n. resolve step n t (after step t s)) e
+
+pub ruleset following = (resolved, resolve_next)

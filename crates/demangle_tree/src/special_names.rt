@@ -1,0 +1,195 @@
+//! Whether a name is that of a constructor, a destructor or a conversion, which have no return type in their signature.
+
+ghost use Rattle.std.specs.Prelude.{◌≡◌, ◌+◌, is_some};
+ghost use Rattle.demangle_tree.specs.Core.{N, U};
+ghost use Rattle.demangle_tree.specs.Table.{size};
+ghost use Rattle.demangle_tree.specs.Lookups.{after, is_special, resolve, special_step};
+ghost use Rattle.demangle_tree.specs.LookupsOf.{special_next};
+ghost use Rattle.demangle_tree.specs.TableOf.{table_of};
+ghost use Rattle.demangle_tree.specs.TreeLeaves.{tree_of_nested_name, tree_of_prefix_handle, tree_of_unqualified_name, tree_of_unscoped_name};
+ghost use Rattle.demangle_tree.specs.TreeNodes.{tree_of_name};
+ghost use Rattle.demangle_tree.specs.TreeEntries.{tree_of_prefix, tree_of_substitutable};
+
+use crate::entries::{Prefix, Substitutable};
+use crate::leaves::{NestedName, OperatorName, PrefixHandle, UnqualifiedName, UnscopedName};
+use crate::nodes::Name;
+use crate::steps::SpecialStep;
+use crate::table::SubstitutionTable;
+
+fn special_of_prefix_handle(node: &PrefixHandle) -> SpecialStep
+    ensures { special_next result ≡ special_step (tree_of_prefix_handle node.now) }
+{
+    match node {
+        PrefixHandle::WellKnown(_) => SpecialStep::No,
+        PrefixHandle::BackReference(idx) => SpecialStep::Numbered(*idx),
+        PrefixHandle::NonSubstitution(other) => SpecialStep::Other(other.0),
+    }
+}
+
+fn special_of_unqualified_name(node: &UnqualifiedName) -> SpecialStep
+    ensures { special_next result ≡ special_step (tree_of_unqualified_name node.now) }
+{
+    match node {
+        UnqualifiedName::CtorDtor(_, _) => SpecialStep::Yes,
+        UnqualifiedName::Operator(operator, _) => match operator {
+            OperatorName::Conversion(_) => SpecialStep::Yes,
+            _ => SpecialStep::No,
+        },
+        _ => SpecialStep::No,
+    }
+}
+
+fn special_of_unscoped_name(node: &UnscopedName) -> SpecialStep
+    ensures { special_next result ≡ special_step (tree_of_unscoped_name node.now) }
+{
+    match node {
+        UnscopedName::Unqualified(name) => special_of_unqualified_name(name),
+        UnscopedName::Std(name) => special_of_unqualified_name(name),
+    }
+}
+
+fn special_of_nested_name(node: &NestedName) -> SpecialStep
+    ensures { special_next result ≡ special_step (tree_of_nested_name node.now) }
+{
+    match node {
+        NestedName::Unqualified(_, _, prefix, _) => match prefix {
+            Some(prefix) => special_of_prefix_handle(prefix),
+            None => SpecialStep::No,
+        },
+        NestedName::Template(_, _, prefix) => special_of_prefix_handle(prefix),
+        NestedName::UnqualifiedExplicitObject(prefix, _, _) => match prefix {
+            Some(prefix) => special_of_prefix_handle(prefix),
+            None => SpecialStep::No,
+        },
+        NestedName::TemplateExplicitObject(prefix, _) => special_of_prefix_handle(prefix),
+    }
+}
+
+#[tactic(auto, using(crate::proofs::Parts::parts_name))]
+fn special_of_name(node: &Name) -> SpecialStep
+    ensures { special_next result ≡ special_step (tree_of_name node.now) }
+{
+    match node {
+        Name::Nested(name) => special_of_nested_name(name),
+        Name::Unscoped(name) => special_of_unscoped_name(name),
+        _ => SpecialStep::No,
+    }
+}
+
+fn special_of_prefix(node: &Prefix) -> SpecialStep
+    ensures { special_next result ≡ special_step (tree_of_prefix node.now) }
+{
+    match node {
+        Prefix::Unqualified(name) => special_of_unqualified_name(name),
+        Prefix::Nested(_, name) => special_of_unqualified_name(name),
+        Prefix::Template(prefix, _) => special_of_prefix_handle(prefix),
+        _ => SpecialStep::No,
+    }
+}
+
+fn special_of_substitutable(node: &Substitutable) -> SpecialStep
+    ensures { special_next result ≡ special_step (tree_of_substitutable node.now) }
+{
+    match node {
+        Substitutable::Prefix(prefix) => special_of_prefix(prefix),
+        _ => SpecialStep::No,
+    }
+}
+
+fn after_special(step: SpecialStep, subs: &SubstitutionTable) -> SpecialStep
+    ensures { special_next result ≡ after special_step (table_of subs.now) (special_next step) }
+{
+    match step {
+        SpecialStep::Numbered(idx) => match subs.get(idx) {
+            Some(entry) => special_of_substitutable(entry),
+            None => SpecialStep::No,
+        },
+        SpecialStep::Other(idx) => match subs.get_non_substitution(idx) {
+            Some(entry) => special_of_substitutable(entry),
+            None => SpecialStep::No,
+        },
+        _ => step,
+    }
+}
+
+#[tactic(auto, using(crate::proofs::Resolved::following))]
+fn follow_special(first: SpecialStep, subs: &SubstitutionTable) -> bool
+    ensures { result ≡ is_some (resolve special_step (size N (table_of subs.now) + size U (table_of subs.now)) (table_of subs.now) (special_next first)) }
+{
+    let mut step = first;
+    let mut more = subs.entry_count();
+    while more > 0 && step.refers() {
+        step = after_special(step, subs);
+        more -= 1;
+    }
+    step.answer()
+}
+
+/// Whether a name is that of a constructor, a destructor or a conversion.
+pub trait IsCtorDtorConversion {
+    /// Whether it is one; where it refers to a component, whether that is.
+    fn is_ctor_dtor_conversion(&self, subs: &SubstitutionTable) -> bool;
+}
+
+impl IsCtorDtorConversion for Name {
+    #[tactic(auto, unfolding(crate::specs::Lookups::is_special))]
+    fn is_ctor_dtor_conversion(&self, subs: &SubstitutionTable) -> bool
+        ensures { result ≡ is_special (table_of subs.now) (tree_of_name self.now) }
+    {
+        follow_special(special_of_name(self), subs)
+    }
+}
+
+impl IsCtorDtorConversion for NestedName {
+    #[tactic(auto, unfolding(crate::specs::Lookups::is_special))]
+    fn is_ctor_dtor_conversion(&self, subs: &SubstitutionTable) -> bool
+        ensures { result ≡ is_special (table_of subs.now) (tree_of_nested_name self.now) }
+    {
+        follow_special(special_of_nested_name(self), subs)
+    }
+}
+
+impl IsCtorDtorConversion for Prefix {
+    #[tactic(auto, unfolding(crate::specs::Lookups::is_special))]
+    fn is_ctor_dtor_conversion(&self, subs: &SubstitutionTable) -> bool
+        ensures { result ≡ is_special (table_of subs.now) (tree_of_prefix self.now) }
+    {
+        follow_special(special_of_prefix(self), subs)
+    }
+}
+
+impl IsCtorDtorConversion for PrefixHandle {
+    #[tactic(auto, unfolding(crate::specs::Lookups::is_special))]
+    fn is_ctor_dtor_conversion(&self, subs: &SubstitutionTable) -> bool
+        ensures { result ≡ is_special (table_of subs.now) (tree_of_prefix_handle self.now) }
+    {
+        follow_special(special_of_prefix_handle(self), subs)
+    }
+}
+
+impl IsCtorDtorConversion for UnscopedName {
+    #[tactic(auto, unfolding(crate::specs::Lookups::is_special))]
+    fn is_ctor_dtor_conversion(&self, subs: &SubstitutionTable) -> bool
+        ensures { result ≡ is_special (table_of subs.now) (tree_of_unscoped_name self.now) }
+    {
+        follow_special(special_of_unscoped_name(self), subs)
+    }
+}
+
+impl IsCtorDtorConversion for UnqualifiedName {
+    #[tactic(auto, unfolding(crate::specs::Lookups::is_special))]
+    fn is_ctor_dtor_conversion(&self, subs: &SubstitutionTable) -> bool
+        ensures { result ≡ is_special (table_of subs.now) (tree_of_unqualified_name self.now) }
+    {
+        follow_special(special_of_unqualified_name(self), subs)
+    }
+}
+
+impl IsCtorDtorConversion for Substitutable {
+    #[tactic(auto, unfolding(crate::specs::Lookups::is_special))]
+    fn is_ctor_dtor_conversion(&self, subs: &SubstitutionTable) -> bool
+        ensures { result ≡ is_special (table_of subs.now) (tree_of_substitutable self.now) }
+    {
+        follow_special(special_of_substitutable(self), subs)
+    }
+}
