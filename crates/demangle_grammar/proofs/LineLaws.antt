@@ -1,5 +1,5 @@
 -- Laws on the lines of an input: what is due once a line feed is seen, at the end, and behind a line that is too long.
-use Rattle.std.proofs.Common.{eq-eqb, min, get_or, ◌≡◌, ℕ, suc, ◌+◌, ◌-◌, ◌<◌, ◌≤◌, Bool, true, false, cond, eqb, not, List, [], ◌∷◌, ◌++◌, length, take, drop, refl, sym, ap, ◌∙◌, append_assoc, append-nil, arith, rules, length-append, length-take-le, take-append-drop, nat_le, tests}
+use Rattle.std.proofs.Common.{eq-eqb, get_or, ◌≡◌, ℕ, suc, ◌+◌, ◌-◌, ◌<◌, ◌≤◌, Bool, true, false, cond, eqb, not, List, [], ◌∷◌, ◌++◌, length, take, drop, refl, sym, ap, ◌∙◌, append-nil, arith, rules, length-append, length-take-le, take-append-drop, nat_le, tests}
 use Rattle.std.proofs.lemmas.Grind.{common_steps}
 use Rattle.std.proofs.lemmas.List.Folds.{prefix_len-append}
 use Rattle.std.proofs.Math.Seq.{take-append-add, drop-append-add, take-length}

@@ -1,7 +1,7 @@
 -- Trees that were read: what they spell, their core, and their components.
 use Rattle.std.specs.Prelude.{◌⊎◌, ◌≡◌, ℕ, suc, ◌+◌, ◌<◌, List, [], ◌∷◌, ◌++◌, pos}
 use Rattle.demangle_tree.specs.Sound.{RefersTo}
-use Rattle.demangle_tree.specs.Core.{Core, end, node, place, number, flag, chosen, ref, mark, ◌⊕◌, Tag, Which, N, U}
+use Rattle.demangle_tree.specs.Core.{Core, end, node, place, number, chosen, ref, ◌⊕◌, Tag, Which, N, U}
 use Rattle.demangle_tree.specs.Table.{Entry, count}
 use Rattle.demangle_grammar.specs.Rule.{Make}
 

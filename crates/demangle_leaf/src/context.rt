@@ -4,10 +4,9 @@ ghost use Rattle.std.specs.Prelude.{◌≡◌, ◌+◌, ◌<◌, ℕ, suc, Bool,
 ghost use Rattle.demangle_leaf.specs.Context.{Context, levels_left};
 ghost use Rattle.demangle_text.specs.declared.error.Error.TheVariants.{TooMuchRecursion};
 
-use std::marker::Model;
-
 use crate::depth::Depth;
 use demangle_text::{Error, ParseOptions, Result};
+use std::marker::Model;
 
 /// How deep a reading is, and how deep it may go. In a contract it is its limit, its level and its flag; the level is always below
 /// the limit.

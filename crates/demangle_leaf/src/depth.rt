@@ -37,7 +37,12 @@ pub fn hidden<X>(answer: Result<X>) -> Result<Option<X>>
 {
     match answer {
         Ok(x) => Ok(Some(x)),
-        Err(Error::UnexpectedEnd | Error::UnexpectedText | Error::BadBackReference | Error::Overflow) => Ok(None),
+        Err(
+            Error::UnexpectedEnd
+            | Error::UnexpectedText
+            | Error::BadBackReference
+            | Error::Overflow,
+        ) => Ok(None),
         Err(error) => Err(error),
     }
 }

@@ -11,13 +11,17 @@ use crate::context::ParseContext;
 use crate::rows;
 use demangle_text::{IndexStr, Result};
 use demangle_tree::{
-    AbiTag, CallOffset, CloneTypeIdentifier, CvQualifiers, Discriminator, FunctionParam, Identifier, Number, NvOffset, SeqId, SourceName, Substitution,
-    SubstitutionTable, TemplateParam, UnnamedTypeName, VOffset,
+    AbiTag, CallOffset, CloneTypeIdentifier, CvQualifiers, Discriminator, FunctionParam,
+    Identifier, Number, NvOffset, SeqId, SourceName, Substitution, SubstitutionTable,
+    TemplateParam, UnnamedTypeName, VOffset,
 };
 
 /// A source name, ABI section 5.1.2, <source-name>: a number and just so many bytes of an identifier. A length of 0 and bytes that are
 /// no identifier's are `UnexpectedText`, fewer bytes `UnexpectedEnd`.
-pub fn read_source_name<'b>(ctx: &mut ParseContext, input: IndexStr<'b>) -> Result<(SourceName, IndexStr<'b>)>
+pub fn read_source_name<'b>(
+    ctx: &mut ParseContext,
+    input: IndexStr<'b>,
+) -> Result<(SourceName, IndexStr<'b>)>
     ensures reads { Reads tree_of_source_name Row.source_name ctx.old input.entry result }
     ensures context { ctx.new ≡ ctx.old }
 {
@@ -26,7 +30,10 @@ pub fn read_source_name<'b>(ctx: &mut ParseContext, input: IndexStr<'b>) -> Resu
 }
 
 /// Qualifiers, of which there may be none, ABI section 5.1.5.1, <CV-qualifiers>. The one refusal is `TooMuchRecursion`.
-pub fn read_cv_qualifiers<'b>(ctx: &mut ParseContext, input: IndexStr<'b>) -> Result<(CvQualifiers, IndexStr<'b>)>
+pub fn read_cv_qualifiers<'b>(
+    ctx: &mut ParseContext,
+    input: IndexStr<'b>,
+) -> Result<(CvQualifiers, IndexStr<'b>)>
     ensures reads { Reads tree_of_cv_qualifiers Row.cv_qualifiers ctx.old input.entry result }
     ensures context { ctx.new ≡ ctx.old }
 {
@@ -36,7 +43,11 @@ pub fn read_cv_qualifiers<'b>(ctx: &mut ParseContext, input: IndexStr<'b>) -> Re
 
 /// A reference to a numbered component of the table, or a word for one, ABI section 5.1.10, <substitution>. A component that isn't in
 /// the table is `BadBackReference`, which is judged before the closing `_`.
-pub fn read_substitution<'b>(ctx: &mut ParseContext, subs: &SubstitutionTable, input: IndexStr<'b>) -> Result<(Substitution, IndexStr<'b>)>
+pub fn read_substitution<'b>(
+    ctx: &mut ParseContext,
+    subs: &SubstitutionTable,
+    input: IndexStr<'b>,
+) -> Result<(Substitution, IndexStr<'b>)>
     ensures reads { AnswersRow tree_of_substitution Row.substitution (levels_left ctx.old) ctx.old.conversion input.entry result (table_of subs.now) }
     ensures context { ctx.new ≡ ctx.old }
 {
@@ -45,7 +56,10 @@ pub fn read_substitution<'b>(ctx: &mut ParseContext, subs: &SubstitutionTable, i
 }
 
 /// A number that may be negative, ABI section 5.1.2, <number>. Each refusal is the row's.
-pub fn read_number<'b>(ctx: &mut ParseContext, input: IndexStr<'b>) -> Result<(Number, IndexStr<'b>)>
+pub fn read_number<'b>(
+    ctx: &mut ParseContext,
+    input: IndexStr<'b>,
+) -> Result<(Number, IndexStr<'b>)>
     ensures reads { Reads tree_of_signed Row.number ctx.old input.entry result }
     ensures context { ctx.new ≡ ctx.old }
 {
@@ -63,7 +77,10 @@ pub fn read_seq_id<'b>(ctx: &mut ParseContext, input: IndexStr<'b>) -> Result<(S
 }
 
 /// An identifier, ABI section 5.1.2, <identifier>: the longest run of ASCII letters, digits, `$`, `_` and `.`. Each refusal is the row's.
-pub fn read_identifier<'b>(ctx: &mut ParseContext, input: IndexStr<'b>) -> Result<(Identifier, IndexStr<'b>)>
+pub fn read_identifier<'b>(
+    ctx: &mut ParseContext,
+    input: IndexStr<'b>,
+) -> Result<(Identifier, IndexStr<'b>)>
     ensures reads { Reads tree_of_identifier Row.identifier ctx.old input.entry result }
     ensures context { ctx.new ≡ ctx.old }
 {
@@ -72,7 +89,10 @@ pub fn read_identifier<'b>(ctx: &mut ParseContext, input: IndexStr<'b>) -> Resul
 }
 
 /// The type of a clone, behind the first dot of its suffix: as an identifier, without the dot. Each refusal is the row's.
-pub fn read_clone_type_identifier<'b>(ctx: &mut ParseContext, input: IndexStr<'b>) -> Result<(CloneTypeIdentifier, IndexStr<'b>)>
+pub fn read_clone_type_identifier<'b>(
+    ctx: &mut ParseContext,
+    input: IndexStr<'b>,
+) -> Result<(CloneTypeIdentifier, IndexStr<'b>)>
     ensures reads { Reads tree_of_clone_type_identifier Row.clone_type_identifier ctx.old input.entry result }
     ensures context { ctx.new ≡ ctx.old }
 {
@@ -81,7 +101,10 @@ pub fn read_clone_type_identifier<'b>(ctx: &mut ParseContext, input: IndexStr<'b
 }
 
 /// An ABI tag, ABI section 5.1.2, <abi-tag>. Each refusal is the row's.
-pub fn read_abi_tag<'b>(ctx: &mut ParseContext, input: IndexStr<'b>) -> Result<(AbiTag, IndexStr<'b>)>
+pub fn read_abi_tag<'b>(
+    ctx: &mut ParseContext,
+    input: IndexStr<'b>,
+) -> Result<(AbiTag, IndexStr<'b>)>
     ensures reads { Reads tree_of_abi_tag Row.abi_tag ctx.old input.entry result }
     ensures context { ctx.new ≡ ctx.old }
 {
@@ -90,7 +113,10 @@ pub fn read_abi_tag<'b>(ctx: &mut ParseContext, input: IndexStr<'b>) -> Result<(
 }
 
 /// A fixed offset, ABI section 5.1.4.2, <nv-offset>. Each refusal is the row's.
-pub fn read_nv_offset<'b>(ctx: &mut ParseContext, input: IndexStr<'b>) -> Result<(NvOffset, IndexStr<'b>)>
+pub fn read_nv_offset<'b>(
+    ctx: &mut ParseContext,
+    input: IndexStr<'b>,
+) -> Result<(NvOffset, IndexStr<'b>)>
     ensures reads { Reads tree_of_nv_offset Row.nv_offset ctx.old input.entry result }
     ensures context { ctx.new ≡ ctx.old }
 {
@@ -99,7 +125,10 @@ pub fn read_nv_offset<'b>(ctx: &mut ParseContext, input: IndexStr<'b>) -> Result
 }
 
 /// A fixed and a virtual offset, ABI section 5.1.4.2, <v-offset>. Each refusal is the row's.
-pub fn read_v_offset<'b>(ctx: &mut ParseContext, input: IndexStr<'b>) -> Result<(VOffset, IndexStr<'b>)>
+pub fn read_v_offset<'b>(
+    ctx: &mut ParseContext,
+    input: IndexStr<'b>,
+) -> Result<(VOffset, IndexStr<'b>)>
     ensures reads { Reads tree_of_v_offset Row.v_offset ctx.old input.entry result }
     ensures context { ctx.new ≡ ctx.old }
 {
@@ -108,7 +137,10 @@ pub fn read_v_offset<'b>(ctx: &mut ParseContext, input: IndexStr<'b>) -> Result<
 }
 
 /// How a thunk changes `this` or the result, ABI section 5.1.4.2, <call-offset>. Each refusal is the row's.
-pub fn read_call_offset<'b>(ctx: &mut ParseContext, input: IndexStr<'b>) -> Result<(CallOffset, IndexStr<'b>)>
+pub fn read_call_offset<'b>(
+    ctx: &mut ParseContext,
+    input: IndexStr<'b>,
+) -> Result<(CallOffset, IndexStr<'b>)>
     ensures reads { Reads tree_of_call_offset Row.call_offset ctx.old input.entry result }
     ensures context { ctx.new ≡ ctx.old }
 {
@@ -117,7 +149,10 @@ pub fn read_call_offset<'b>(ctx: &mut ParseContext, input: IndexStr<'b>) -> Resu
 }
 
 /// What tells local entities of one name apart, ABI section 5.1.7, <discriminator>. The long form is for numbers from 10 on. Each refusal is the row's.
-pub fn read_discriminator<'b>(ctx: &mut ParseContext, input: IndexStr<'b>) -> Result<(Discriminator, IndexStr<'b>)>
+pub fn read_discriminator<'b>(
+    ctx: &mut ParseContext,
+    input: IndexStr<'b>,
+) -> Result<(Discriminator, IndexStr<'b>)>
     ensures reads { Reads tree_of_discriminator Row.discriminator ctx.old input.entry result }
     ensures context { ctx.new ≡ ctx.old }
 {
@@ -126,7 +161,10 @@ pub fn read_discriminator<'b>(ctx: &mut ParseContext, input: IndexStr<'b>) -> Re
 }
 
 /// A template parameter by its index, ABI section 5.1.5.8, <template-param>. Each refusal is the row's.
-pub fn read_template_param<'b>(ctx: &mut ParseContext, input: IndexStr<'b>) -> Result<(TemplateParam, IndexStr<'b>)>
+pub fn read_template_param<'b>(
+    ctx: &mut ParseContext,
+    input: IndexStr<'b>,
+) -> Result<(TemplateParam, IndexStr<'b>)>
     ensures reads { Reads tree_of_template_param Row.template_param ctx.old input.entry result }
     ensures context { ctx.new ≡ ctx.old }
 {
@@ -135,7 +173,10 @@ pub fn read_template_param<'b>(ctx: &mut ParseContext, input: IndexStr<'b>) -> R
 }
 
 /// A function parameter, `this` for none, ABI section 5.1.5.9, <function-param>. Each refusal is the row's.
-pub fn read_function_param<'b>(ctx: &mut ParseContext, input: IndexStr<'b>) -> Result<(FunctionParam, IndexStr<'b>)>
+pub fn read_function_param<'b>(
+    ctx: &mut ParseContext,
+    input: IndexStr<'b>,
+) -> Result<(FunctionParam, IndexStr<'b>)>
     ensures reads { Reads tree_of_function_param Row.function_param ctx.old input.entry result }
     ensures context { ctx.new ≡ ctx.old }
 {
@@ -144,7 +185,10 @@ pub fn read_function_param<'b>(ctx: &mut ParseContext, input: IndexStr<'b>) -> R
 }
 
 /// The name of an unnamed type, ABI section 5.1.7, <unnamed-type-name>. Each refusal is the row's.
-pub fn read_unnamed_type_name<'b>(ctx: &mut ParseContext, input: IndexStr<'b>) -> Result<(UnnamedTypeName, IndexStr<'b>)>
+pub fn read_unnamed_type_name<'b>(
+    ctx: &mut ParseContext,
+    input: IndexStr<'b>,
+) -> Result<(UnnamedTypeName, IndexStr<'b>)>
     ensures reads { Reads tree_of_unnamed_type_name Row.unnamed_type_name ctx.old input.entry result }
     ensures context { ctx.new ≡ ctx.old }
 {

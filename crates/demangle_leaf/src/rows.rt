@@ -11,8 +11,9 @@ use crate::bytes::{digit_at, letters_at, optional_word};
 use crate::depth::{Depth, hidden};
 use demangle_text::{Error, IndexStr, Result, consume, parse_number, parse_unsigned};
 use demangle_tree::{
-    AbiTag, CallOffset, CloneTypeIdentifier, CvQualifiers, Discriminator, FunctionParam, Identifier, Number, NvOffset, SeqId, SourceName, Substitution,
-    SubstitutionTable, TemplateParam, UnnamedTypeName, VOffset,
+    AbiTag, CallOffset, CloneTypeIdentifier, CvQualifiers, Discriminator, FunctionParam,
+    Identifier, Number, NvOffset, SeqId, SourceName, Substitution, SubstitutionTable,
+    TemplateParam, UnnamedTypeName, VOffset,
 };
 use demangle_vocab::WellKnownComponent;
 
@@ -70,7 +71,10 @@ pub fn cv_qualifiers<'b>(depth: Depth, input: IndexStr<'b>) -> Result<(CvQualifi
 
 /// A component of the standard library by its word, ABI section 5.1.10, <substitution>.
 #[tactic(auto, unfolding(demangle_grammar::specs::Code::cread, demangle_grammar::specs::Rows::rule))]
-pub fn well_known_component<'b>(depth: Depth, input: IndexStr<'b>) -> Result<(WellKnownComponent, IndexStr<'b>)>
+pub fn well_known_component<'b>(
+    depth: Depth,
+    input: IndexStr<'b>,
+) -> Result<(WellKnownComponent, IndexStr<'b>)>
     ensures { (table : Table) → AnswersRow tree_of_well_known_component Row.well_known_component depth.levels depth.conversion input.entry result table }
 {
     let _depth = depth.enter()?;
@@ -91,7 +95,11 @@ pub fn seq_id<'b>(depth: Depth, input: IndexStr<'b>) -> Result<(SeqId, IndexStr<
 
 /// A reference to a numbered component, or a word for one, ABI section 5.1.10, <substitution>.
 #[tactic(auto, unfolding(demangle_grammar::specs::Code::cread, demangle_grammar::specs::Rows::rule))]
-pub fn substitution<'b>(depth: Depth, subs: &SubstitutionTable, input: IndexStr<'b>) -> Result<(Substitution, IndexStr<'b>)>
+pub fn substitution<'b>(
+    depth: Depth,
+    subs: &SubstitutionTable,
+    input: IndexStr<'b>,
+) -> Result<(Substitution, IndexStr<'b>)>
     ensures { AnswersRow tree_of_substitution Row.substitution depth.levels depth.conversion input.entry result (table_of subs.now) }
 {
     let depth = depth.enter()?;
@@ -122,7 +130,10 @@ pub fn number<'b>(depth: Depth, input: IndexStr<'b>) -> Result<(Number, IndexStr
 
 /// The type of a clone, behind the first dot of its suffix.
 #[tactic(auto, unfolding(demangle_grammar::specs::Code::cread, demangle_grammar::specs::Rows::rule))]
-pub fn clone_type_identifier<'b>(depth: Depth, input: IndexStr<'b>) -> Result<(CloneTypeIdentifier, IndexStr<'b>)>
+pub fn clone_type_identifier<'b>(
+    depth: Depth,
+    input: IndexStr<'b>,
+) -> Result<(CloneTypeIdentifier, IndexStr<'b>)>
     ensures { (table : Table) → AnswersRow tree_of_clone_type_identifier Row.clone_type_identifier depth.levels depth.conversion input.entry result table }
 {
     let _depth = depth.enter()?;
@@ -210,7 +221,10 @@ pub fn discriminator<'b>(depth: Depth, input: IndexStr<'b>) -> Result<(Discrimin
 
 /// A template parameter, ABI section 5.1.5.8, <template-param>.
 #[tactic(auto, unfolding(demangle_grammar::specs::Code::cread, demangle_grammar::specs::Rows::rule))]
-pub fn template_param<'b>(depth: Depth, input: IndexStr<'b>) -> Result<(TemplateParam, IndexStr<'b>)>
+pub fn template_param<'b>(
+    depth: Depth,
+    input: IndexStr<'b>,
+) -> Result<(TemplateParam, IndexStr<'b>)>
     ensures { (table : Table) → AnswersRow tree_of_template_param Row.template_param depth.levels depth.conversion input.entry result table }
 {
     let _depth = depth.enter()?;
@@ -225,7 +239,10 @@ pub fn template_param<'b>(depth: Depth, input: IndexStr<'b>) -> Result<(Template
 
 /// A function parameter, `this` for none, ABI section 5.1.5.9, <function-param>.
 #[tactic(auto, unfolding(demangle_grammar::specs::Code::cread, demangle_grammar::specs::Rows::rule))]
-pub fn function_param<'b>(depth: Depth, input: IndexStr<'b>) -> Result<(FunctionParam, IndexStr<'b>)>
+pub fn function_param<'b>(
+    depth: Depth,
+    input: IndexStr<'b>,
+) -> Result<(FunctionParam, IndexStr<'b>)>
     ensures { (table : Table) → AnswersRow tree_of_function_param Row.function_param depth.levels depth.conversion input.entry result table }
 {
     let depth = depth.enter()?;
@@ -252,7 +269,10 @@ pub fn function_param<'b>(depth: Depth, input: IndexStr<'b>) -> Result<(Function
 
 /// The name of an unnamed type, ABI section 5.1.7, <unnamed-type-name>.
 #[tactic(auto, unfolding(demangle_grammar::specs::Code::cread, demangle_grammar::specs::Rows::rule))]
-pub fn unnamed_type_name<'b>(depth: Depth, input: IndexStr<'b>) -> Result<(UnnamedTypeName, IndexStr<'b>)>
+pub fn unnamed_type_name<'b>(
+    depth: Depth,
+    input: IndexStr<'b>,
+) -> Result<(UnnamedTypeName, IndexStr<'b>)>
     ensures { (table : Table) → AnswersRow tree_of_unnamed_type_name Row.unnamed_type_name depth.levels depth.conversion input.entry result table }
 {
     let _depth = depth.enter()?;

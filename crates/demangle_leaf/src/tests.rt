@@ -1,14 +1,16 @@
 //! What no clause says: answers that come from outside, and that each call is met by some input.
 
 use crate::{
-    ParseContext, read_abi_tag, read_call_offset, read_clone_type_identifier, read_cv_qualifiers, read_discriminator,
-    read_function_param, read_identifier, read_number, read_nv_offset, read_seq_id, read_source_name, read_substitution,
-    read_template_param, read_unnamed_type_name, read_v_offset,
+    ParseContext, read_abi_tag, read_call_offset, read_clone_type_identifier, read_cv_qualifiers,
+    read_discriminator, read_function_param, read_identifier, read_number, read_nv_offset,
+    read_seq_id, read_source_name, read_substitution, read_template_param, read_unnamed_type_name,
+    read_v_offset,
 };
 use demangle_text::{Error, IndexStr, ParseOptions, Result};
 use demangle_tree::{
-    AbiTag, CallOffset, CloneTypeIdentifier, CvQualifiers, Discriminator, FunctionParam, Identifier, NvOffset, SeqId,
-    SourceName, Substitution, SubstitutionTable, TemplateParam, UnnamedTypeName, VOffset,
+    AbiTag, CallOffset, CloneTypeIdentifier, CvQualifiers, Discriminator, FunctionParam,
+    Identifier, NvOffset, SeqId, SourceName, Substitution, SubstitutionTable, TemplateParam,
+    UnnamedTypeName, VOffset,
 };
 use demangle_vocab::WellKnownComponent;
 use std::test::Fail;
@@ -49,8 +51,14 @@ fn source_names_are_read_as_the_grammar_says(rt: HostRuntime) {
 fn substitutions_are_read_as_the_grammar_says(rt: HostRuntime) {
     let subs = SubstitutionTable::new(rt.alloc());
     let cases: [(&str, Result<(Substitution, &str)>); 8] = [
-        ("St1a", Ok((Substitution::WellKnown(WellKnownComponent::Std), "1a"))),
-        ("Sd", Ok((Substitution::WellKnown(WellKnownComponent::StdIostream), ""))),
+        (
+            "St1a",
+            Ok((Substitution::WellKnown(WellKnownComponent::Std), "1a")),
+        ),
+        (
+            "Sd",
+            Ok((Substitution::WellKnown(WellKnownComponent::StdIostream), "")),
+        ),
         ("S_", Err(Error::BadBackReference)),
         ("S", Err(Error::BadBackReference)),
         ("SZ_", Err(Error::BadBackReference)),
@@ -85,14 +93,16 @@ fn qualifiers_are_read_in_their_order(rt: HostRuntime) {
     for (text, want, left) in cases {
         let mut ctx = ParseContext::new(ParseOptions::default());
         match read_cv_qualifiers(&mut ctx, IndexStr::new(text.as_bytes())) {
-            Ok((
-                CvQualifiers {
-                    restrict,
-                    volatile,
-                    const_,
-                },
-                rest,
-            )) => {
+            Ok(
+                (
+                    CvQualifiers {
+                        restrict,
+                        volatile,
+                        const_,
+                    },
+                    rest,
+                ),
+            ) => {
                 assert_eq!(rt; (restrict, volatile, const_), want, "at {text}");
                 assert!(rt; rest.eq_bytes(left.as_bytes()), "at {text}");
             }
@@ -140,9 +150,15 @@ fn names_and_numbers_are_read(rt: HostRuntime) -> std::result::Result<(), Fail> 
     assert_eq!(rt; number, 71);
     let (Identifier { start, end }, _) = read_identifier(&mut ctx, IndexStr::new(b"a.b-"))?;
     assert_eq!(rt; (start, end), (0, 3));
-    let (CloneTypeIdentifier { start, end }, _) = read_clone_type_identifier(&mut ctx, IndexStr::new(b"a.b"))?;
+    let (CloneTypeIdentifier { start, end }, _) = read_clone_type_identifier(
+        &mut ctx,
+        IndexStr::new(b"a.b"),
+    )?;
     assert_eq!(rt; (start, end), (0, 1));
-    let (AbiTag(SourceName(Identifier { start, end })), _) = read_abi_tag(&mut ctx, IndexStr::new(b"B5cxx11"))?;
+    let (AbiTag(SourceName(Identifier { start, end })), _) = read_abi_tag(
+        &mut ctx,
+        IndexStr::new(b"B5cxx11"),
+    )?;
     assert_eq!(rt; (start, end), (2, 7));
     Ok(())
 }
@@ -165,9 +181,15 @@ fn offsets_are_read(rt: HostRuntime) -> std::result::Result<(), Fail> {
 fn parameters_are_numbered_from_zero(rt: HostRuntime) -> std::result::Result<(), Fail> {
     let mut ctx = ParseContext::new(ParseOptions::default());
     let (TemplateParam(first), _) = read_template_param(&mut ctx, IndexStr::new(b"T_"))?;
-    let (TemplateParam(last), _) = read_template_param(&mut ctx, IndexStr::new(b"T9223372036854775807_"))?;
+    let (TemplateParam(last), _) = read_template_param(
+        &mut ctx,
+        IndexStr::new(b"T9223372036854775807_"),
+    )?;
     assert_eq!(rt; (first, last), (0, 9223372036854775808));
-    let (FunctionParam(level, qualifiers, index), _) = read_function_param(&mut ctx, IndexStr::new(b"fL2pK1_"))?;
+    let (FunctionParam(level, qualifiers, index), _) = read_function_param(
+        &mut ctx,
+        IndexStr::new(b"fL2pK1_"),
+    )?;
     assert_eq!(rt; (level, qualifiers.const_, index), (2, true, Some(2)));
     let (FunctionParam(_, _, this), _) = read_function_param(&mut ctx, IndexStr::new(b"fpT"))?;
     assert_eq!(rt; this, None);

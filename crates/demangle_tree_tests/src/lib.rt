@@ -4,9 +4,10 @@
 #[cfg(test)]
 mod tests {
     use demangle_tree::{
-        AbiTags, BuiltinType, CtorDtorName, CvQualifiers, GetLeafName, GetTemplateArgs, Identifier, IsCtorDtorConversion, LeafName, NestedName,
-        NonSubstitution, Prefix, PrefixHandle, SourceName, Substitutable, SubstitutionTable, TemplateArgs, TypeHandle, TypeNode, UnqualifiedName,
-        insert_and_cut_back,
+        AbiTags, BuiltinType, CtorDtorName, CvQualifiers, GetLeafName, GetTemplateArgs, Identifier,
+        IsCtorDtorConversion, LeafName, NestedName, NonSubstitution, Prefix, PrefixHandle,
+        SourceName, Substitutable, SubstitutionTable, TemplateArgs, TypeHandle, TypeNode,
+        UnqualifiedName, insert_and_cut_back,
     };
     use demangle_vocab::{RefQualifier, StandardBuiltinType, WellKnownComponent};
     use std::alloc::Global;
@@ -79,7 +80,10 @@ mod tests {
     fn a_prefix_has_the_leaf_of_its_name(rt: HostRuntime) {
         let alloc = rt.alloc();
         let mut subs = SubstitutionTable::new(alloc);
-        assert!(rt; subs.insert(Substitutable::Prefix(Prefix::Unqualified(plain(alloc, 0, 1)))).is_ok());
+        assert!(rt;
+            subs.insert(Substitutable::Prefix(Prefix::Unqualified(plain(alloc, 0, 1))))
+                .is_ok()
+        );
         let handle = PrefixHandle::BackReference(0);
         let known = PrefixHandle::WellKnown(WellKnownComponent::Std);
         let named = match handle.get_leaf_name(&subs) {
@@ -100,20 +104,43 @@ mod tests {
     fn a_template_has_arguments_and_a_constructor_none(rt: HostRuntime) {
         let alloc = rt.alloc();
         let mut subs = SubstitutionTable::new(alloc);
-        assert!(rt; subs.insert(Substitutable::Prefix(Prefix::Unqualified(plain(alloc, 0, 1)))).is_ok());
-        let template = Prefix::Template(PrefixHandle::BackReference(0), TemplateArgs(Vec::new(alloc), 7));
-        assert!(rt; matches!(subs.insert_non_substitution(Substitutable::Prefix(template)), Ok(0)));
+        assert!(rt;
+            subs.insert(Substitutable::Prefix(Prefix::Unqualified(plain(alloc, 0, 1))))
+                .is_ok()
+        );
+        let template = Prefix::Template(
+            PrefixHandle::BackReference(0),
+            TemplateArgs(Vec::new(alloc), 7),
+        );
+        assert!(rt;
+            matches!(
+                subs.insert_non_substitution(Substitutable::Prefix(template)),
+                Ok(0)
+            )
+        );
         let handle = PrefixHandle::NonSubstitution(NonSubstitution(0));
         let place = match handle.get_template_args(&subs) {
             Some(args) => args.1,
             None => 0,
         };
         assert!(rt; place == 7);
-        let constructor = UnqualifiedName::CtorDtor(CtorDtorName::CompleteConstructor(None), AbiTags(Vec::new(alloc)));
+        let constructor = UnqualifiedName::CtorDtor(
+            CtorDtorName::CompleteConstructor(None),
+            AbiTags(Vec::new(alloc)),
+        );
         assert!(rt; constructor.is_ctor_dtor_conversion(&subs));
         assert!(rt; constructor.get_leaf_name(&subs).is_none());
-        let none = CvQualifiers { restrict: false, volatile: false, const_: false };
-        let nested = NestedName::Unqualified(none, Some(RefQualifier::LValueRef), Some(handle), constructor);
+        let none = CvQualifiers {
+            restrict: false,
+            volatile: false,
+            const_: false,
+        };
+        let nested = NestedName::Unqualified(
+            none,
+            Some(RefQualifier::LValueRef),
+            Some(handle),
+            constructor,
+        );
         assert!(rt; nested.get_leaf_name(&subs).is_some());
         assert!(rt; !nested.has_explicit_obj_param());
         assert!(rt; nested.cv_qualifiers().is_some());
@@ -125,10 +152,21 @@ mod tests {
     fn a_long_chain_takes_no_stack(rt: HostRuntime) {
         let alloc = rt.alloc();
         let mut subs = SubstitutionTable::new(alloc);
-        assert!(rt; subs.insert(Substitutable::Prefix(Prefix::Unqualified(plain(alloc, 3, 5)))).is_ok());
+        assert!(rt;
+            subs.insert(Substitutable::Prefix(Prefix::Unqualified(plain(alloc, 3, 5))))
+                .is_ok()
+        );
         for i in 0..100_000 {
-            let structor = UnqualifiedName::CtorDtor(CtorDtorName::CompleteDestructor, AbiTags(Vec::new(alloc)));
-            assert!(rt; subs.insert(Substitutable::Prefix(Prefix::Nested(PrefixHandle::BackReference(i), structor))).is_ok());
+            let structor = UnqualifiedName::CtorDtor(
+                CtorDtorName::CompleteDestructor,
+                AbiTags(Vec::new(alloc)),
+            );
+            assert!(rt;
+                subs.insert(Substitutable::Prefix(Prefix::Nested(
+                    PrefixHandle::BackReference(i),
+                    structor
+                ))).is_ok()
+            );
         }
         let named = match PrefixHandle::BackReference(100_000).get_leaf_name(&subs) {
             Some(LeafName::SourceName(name)) => *name == source(3, 5),
