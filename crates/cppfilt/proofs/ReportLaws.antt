@@ -1,10 +1,10 @@
 -- Laws on a whole run: what holds of it by how its input part stopped, and by what was reported then.
-use Rattle.std.proofs.Common.{◌≡◌, ◌⊎◌, inl, inr, ℕ, ◌+◌, ◌-◌, ◌^◌, ◌<◌, ◌≤◌, min, List, [], ◌++◌, length, refl, sym, ap, ◌∙◌, append-nil, arith}
+use Rattle.std.proofs.Common.{◌≡◌, ◌⊎◌, inl, inr, ℕ, ◌+◌, ◌-◌, ◌^◌, ◌<◌, ◌≤◌, List, [], length, append-nil, arith}
 use Rattle.std.specs.Prelude.{Option, Some, None, IfSome}
 use Rattle.std.specs.Io.KnownBytes.{Appends, IsAtEnd}
 use Rattle.cppfilt.specs.Causes.{Rose, NoFault}
 use Rattle.cppfilt.specs.Moves.{Moves, Begins}
-use Rattle.cppfilt.specs.Outcome.{Ended, Cut, Stopped}
+use Rattle.cppfilt.specs.Outcome.{Stopped}
 use Rattle.cppfilt.specs.declared.status.Status.{Status}
 use Rattle.cppfilt.specs.declared.status.Status.TheVariants.{Done, Usage, ReadFault, WriteFault, InputTooLong, OutOfMemory}
 use Rattle.cppfilt.proofs.MoveLaws.{begins, begins-none}

@@ -1,6 +1,6 @@
-use Rattle.std.proofs.Common.{◌≡◌, ap, ◌∙◌, sym, rules}
+use Rattle.std.proofs.Common.{ap, ◌∙◌}
 use Rattle.demangle_text.specs.Spot.{spot}
-use Rattle.demangle_grammar.specs.CallText.{call_text, call_of, call_with}
+use Rattle.demangle_grammar.specs.CallText.{call_of}
 use Rattle.cpp_demangle.proofs.CallLaws.{call-missing, call-behind, call-global, call-plain}
 use Rattle.cpp_demangle.proofs.call.call_text.Goals as goal
 

@@ -1,4 +1,4 @@
-use Rattle.std.proofs.Common.{◌≡◌, ◌+◌, ◌≤◌, rules, arith}
+use Rattle.std.proofs.Common.{◌≡◌, ◌+◌, arith}
 use Rattle.demangle_text.specs.Spot.{spot}
 use Rattle.cpp_demangle.proofs.CallLaws.{letter-other, letter-err, index-on, is-letter}
 use Rattle.cpp_demangle.proofs.call.letter.Goals as goal

@@ -1,4 +1,3 @@
-use Rattle.std.proofs.Common.{rules}
 use Rattle.demangle_text.specs.Spot.{spot}
 use Rattle.cpp_demangle.proofs.CallLaws.{number-ok, number-err}
 use Rattle.cpp_demangle.proofs.call.source_name.Goals as goal

@@ -1,4 +1,4 @@
-use Rattle.std.proofs.Common.{◌≡◌, ◌+◌, ◌<◌, ◌≤◌, length, take, refl, rules, arith, sym}
+use Rattle.std.proofs.Common.{◌≡◌, ◌+◌, ◌<◌, ◌≤◌, length, take, rules, arith}
 use Rattle.std.proofs.lemmas.List.{length-take-le}
 use Rattle.cppfilt.specs.Owed.{ahead}
 use Rattle.cppfilt.proofs.RunLaws.{going-more, stop-empty, stop-write}

@@ -1,4 +1,4 @@
-use Rattle.std.proofs.Common.{◌≡◌, ◌<◌, length, rules}
+use Rattle.std.proofs.Common.{◌<◌, length, rules}
 use Rattle.cppfilt.proofs.ReadLaws.{read-longer}
 use Rattle.cppfilt.proofs.filter.read_front.Goals as goal
 

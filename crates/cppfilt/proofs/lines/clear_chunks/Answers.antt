@@ -1,4 +1,4 @@
-use Rattle.std.proofs.Common.{◌≡◌, ◌+◌, ◌-◌, ◌≤◌, length, sym, arith}
+use Rattle.std.proofs.Common.{◌+◌, ◌-◌, ◌≤◌, length, sym, arith}
 use Rattle.cppfilt.proofs.ChunkLaws.{clear-more}
 use Rattle.cppfilt.proofs.lines.clear_chunks.Goals as goal
 

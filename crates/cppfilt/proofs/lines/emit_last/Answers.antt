@@ -1,5 +1,4 @@
-use Rattle.std.proofs.Common.{◌≡◌, ◌<◌, length, inl, inr, rules, arith}
-use Rattle.cppfilt.specs.Owed.{owed}
+use Rattle.std.proofs.Common.{◌<◌, length, inl, inr, rules}
 use Rattle.cppfilt.proofs.MoveLaws.{begins-none}
 use Rattle.cppfilt.proofs.FilterLaws.{moves-nothing, owed-last, nil-from_length}
 use Rattle.cppfilt.proofs.lines.emit_last.Goals as goal

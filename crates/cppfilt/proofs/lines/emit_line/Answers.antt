@@ -1,5 +1,4 @@
-use Rattle.std.proofs.Common.{◌≡◌, ◌++◌, ◌-◌, length, take, drop, sym, ap, ◌∙◌}
-use Rattle.demangle_grammar.specs.Lines.{shown, shown_line}
+use Rattle.std.proofs.Common.{take, sym, ap, ◌∙◌}
 use Rattle.cppfilt.specs.Shown.{text_or}
 use Rattle.cppfilt.proofs.MoveLaws.{begins-none}
 use Rattle.cppfilt.proofs.ShownLaws.{shown_line-kept, shown_line-text}

@@ -1,4 +1,3 @@
-use Rattle.std.proofs.Common.{rules}
 use Rattle.demangle_grammar.specs.Lines.{due}
 use Rattle.cppfilt.proofs.ReportLaws.{nothing-front, run-done, run-front, run-complete, run-usage, run-read, run-read-told, run-write, run-write-told, run-long, run-long-told}
 use Rattle.cppfilt.proofs.run.run.Goals as goal

@@ -1,5 +1,4 @@
-use Rattle.std.proofs.Common.{[], sym, ap}
-use Rattle.cppfilt.specs.Owed.{owed}
+use Rattle.std.proofs.Common.{[]}
 use Rattle.cppfilt.proofs.MoveLaws.{moves-then, begins-then}
 use Rattle.cppfilt.proofs.lines.LineFilter.finish.Goals as goal
 

@@ -1,4 +1,4 @@
-use Rattle.std.proofs.Common.{◌++◌, List, ℕ}
+use Rattle.std.proofs.Common.{◌++◌}
 use Rattle.cppfilt.specs.Owed.{ahead}
 use Rattle.cppfilt.proofs.FilterLaws.{moves-flushed, begins-flushed}
 use Rattle.cppfilt.proofs.lines.LineFilter.take_block.Goals as goal

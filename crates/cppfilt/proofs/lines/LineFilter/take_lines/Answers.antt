@@ -1,4 +1,4 @@
-use Rattle.std.proofs.Common.{◌≡◌, ◌++◌, List, ℕ, ◌∙◌, rules, take-append-drop}
+use Rattle.std.proofs.Common.{◌++◌, List, ℕ, ◌∙◌}
 use Rattle.cppfilt.specs.Owed.{ahead}
 use Rattle.cppfilt.proofs.FilterLaws.{moves-line, begins-line, moves-rest, begins-rest, line-ended, cut-joins}
 use Rattle.cppfilt.proofs.lines.LineFilter.take_lines.Goals as goal
