@@ -31,3 +31,4 @@ pub mod ReadRows7
 pub mod ReadNames1
 pub mod ReadNames2
 pub mod ByHand
+pub mod Expands

@@ -11,3 +11,4 @@ pub mod Sound
 pub mod Code
 pub mod Seen
 pub mod Laws
+pub mod Expand
