@@ -4,10 +4,11 @@ use Rattle.std.proofs.Common.{ap, ◌∙◌, arith}
 use Rattle.demangle_tree.specs.Table.{Entry, count}
 use Rattle.demangle_text.specs.Kind.{Cause}
 use Rattle.demangle_tree.specs.Core.{Core, Which, N, U}
-use Rattle.demangle_grammar.specs.Rule.{Row}
+use Rattle.demangle_grammar.specs.Rule.{Row, Rule}
+use Rattle.demangle_grammar.specs.Items.{Item}
 use Rattle.demangle_grammar.specs.Tree.{Tree, core, nil}
 use Rattle.demangle_grammar.specs.Reading.{Answer, Yes, No, Deep, Measured, measure_from, enough, read_all}
-use Rattle.demangle_grammar.specs.First.{takes_row, first, idle}
+use Rattle.demangle_grammar.specs.First.{takes_row, begins_by, first_in, first, idle_by, idle_in, idle}
 use Rattle.demangle_grammar.specs.Laws.{from, read, reach, components_read}
 use Rattle.demangle_grammar.proofs.Limits.{whole}
 
@@ -65,3 +66,8 @@ entry w c = record { which = w; tree = c }
 -- the components of the tree that the row reads from these bytes, in order
 abbrev pub Completes : Row → List ℕ → List Entry → Type 0
 Completes row bytes es = components_read (read 96 0 row false (from bytes)) ≡ es
+
+-- the same of a part of a row, which counts no level of its own
+pub record PartBegins (part : Item) (ranges : List (ℕ × ℕ)) (n : ℕ) : Type 0 where
+  pub first : bytes_of 256 (λ b. begins_by takes_row (first_in 10) b (part Rule.done)) ≡ bytes_of 256 (in_ranges ranges)
+  pub idle : idle_by takes_row (idle_in 10) (part Rule.done) ≡ n

@@ -1,10 +1,11 @@
 -- The first bytes of each row, and how deep it goes where the next byte is another. Written by tools/conformance.py.
 use Rattle.std.specs.Prelude.{true, false, ◌∷◌, []}
 use Rattle.std.proofs.Common.{refl}
+use Rattle.demangle_tree.specs.Core.{Tag}
 use Rattle.demangle_grammar.specs.Rule.{Row}
-use Rattle.demangle_grammar.specs.Rows.{rule}
+use Rattle.demangle_grammar.specs.Rows.{rule, global, operators}
 use Rattle.demangle_grammar.specs.First.{takes_in, first_in, idle_in}
-use Rattle.demangle_grammar.proofs.Conforms.{Begins}
+use Rattle.demangle_grammar.proofs.Conforms.{Begins, PartBegins}
 
 abi_tag : Begins Row.abi_tag true ((66, 66) ∷ []) 1
 unfolding rule takes_in first_in idle_in
@@ -106,6 +107,10 @@ function_type : Begins Row.function_type true ((68, 68) ∷ (70, 70) ∷ (75, 75
 unfolding rule takes_in first_in idle_in
 function_type = record { takes = refl; first = refl; idle = refl }
 
+global_part : PartBegins (global Tag.ExpressionNew Tag.ExpressionNewArray Tag.ExpressionDelete Tag.ExpressionDeleteArray) ((100, 100) ∷ (110, 110) ∷ []) 0
+unfolding rule takes_in first_in idle_in
+global_part = record { first = refl; idle = refl }
+
 global_ctor_dtor : Begins Row.global_ctor_dtor true ((36, 36) ∷ (46, 46) ∷ (95, 95) ∷ []) 1
 unfolding rule takes_in first_in idle_in
 global_ctor_dtor = record { takes = refl; first = refl; idle = refl }
@@ -153,6 +158,10 @@ nv_offset = record { takes = refl; first = refl; idle = refl }
 operator_name : Begins Row.operator_name true ((97, 97) ∷ (99, 101) ∷ (103, 103) ∷ (105, 105) ∷ (108, 115) ∷ (118, 118) ∷ []) 2
 unfolding rule takes_in first_in idle_in
 operator_name = record { takes = refl; first = refl; idle = refl }
+
+operators_part : PartBegins operators ((97, 97) ∷ (99, 101) ∷ (103, 103) ∷ (105, 105) ∷ (108, 115) ∷ (118, 118) ∷ []) 2
+unfolding rule takes_in first_in idle_in
+operators_part = record { first = refl; idle = refl }
 
 parametric_builtin_type : Begins Row.parametric_builtin_type true ((68, 68) ∷ []) 1
 unfolding rule takes_in first_in idle_in
