@@ -51,7 +51,11 @@ mod tests {
         assert!(rt; subs.get_type(&int()).is_none());
         assert!(rt; matches!(subs.insert_non_substitution(pointer_to_int()), Ok(0)));
         assert!(rt; subs.lengths() == (1, 1));
-        assert!(rt; is_pointer_to_int(subs.non_substitution(0)));
+        let other = match subs.get_non_substitution(0) {
+            Some(entry) => is_pointer_to_int(entry),
+            None => false,
+        };
+        assert!(rt; other);
         subs.cut_back((1, 0));
         assert!(rt; subs.get_non_substitution(0).is_none());
         assert!(rt; subs.lengths() == (1, 0));
