@@ -1,11 +1,11 @@
 -- Each entry refers to earlier ones.
 use Rattle.std.specs.Prelude.{◌<◌, ◌≤◌, Bool, true, false, List, [], ◌∷◌, ◌++◌, pos, ℕ}
 use Rattle.std.proofs.Common.{subst, sym, arith, append_assoc, ⊎_elim}
-use Rattle.demangle_tree.specs.Table.{Entry, count, count_if}
-use Rattle.demangle_tree.specs.Core.{same_which}
-use Rattle.demangle_tree.specs.Core.{Core, end, node, place, number, flag, chosen, ref, ◌⊕◌, Tag, Which, N, U, mark}
+use Rattle.demangle_core.specs.Table.{Entry, count, count_if}
+use Rattle.demangle_core.specs.Core.{same_which}
+use Rattle.demangle_core.specs.Core.{Core, end, node, place, number, flag, chosen, ref, ◌⊕◌, Tag, Which, N, U, mark}
 use Rattle.demangle_grammar.specs.Tree.{Tree, How, core, components, Sound, HowSound, IsOfEntry, adds, shape, index_of, member_of, data_member_of, first_of, rest_of, template_entry, front, taken_of, nested_unqualified, nested_template, reshaped, longer_by, reference}
-use Rattle.demangle_tree.specs.Sound.{RefersTo, ReferBack}
+use Rattle.demangle_core.specs.Sound.{RefersTo, ReferBack}
 use Rattle.demangle_grammar.specs.Laws.{RefersBack}
 use Rattle.demangle_grammar.proofs.Kept.{append-nil}
 use Rattle.demangle_grammar.proofs.Readings.{added, sound}

@@ -2,8 +2,8 @@
 use Rattle.std.specs.Prelude.{◌≡◌, ℕ, zero, suc, ◌+◌, ◌-◌, ◌≤◌, Bool, true, false, cond, not, ◌||◌, List, [], ◌∷◌, ◌++◌, length, take, drop, nat_lt, nat_eq, ◌==◌, codes, if◌then◌else◌, pos, Ok, Err, ℤ}
 use Rattle.std.proofs.Common.{refl, ap, sym, subst, ◌∙◌, arith, rules}
 use Rattle.std.proofs.lemmas.List.{length-take-le}
-use Rattle.demangle_tree.specs.Table.{added, count, size}
-use Rattle.demangle_tree.specs.Core.{Core, end, node, place, number, flag, chosen, ref, mark, ◌⊕◌, Which, N, U}
+use Rattle.demangle_core.specs.Table.{added, count, size}
+use Rattle.demangle_core.specs.Core.{Core, end, node, place, number, flag, chosen, ref, mark, ◌⊕◌, Which, N, U}
 use Rattle.demangle_text.specs.Kind.{Cause, Kind, Unread, End, Text, Bad, ends}
 use Rattle.demangle_text.specs.Kind as kind
 use Rattle.demangle_text.specs.Spot.{Spot, skip}

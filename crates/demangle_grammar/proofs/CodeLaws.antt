@@ -1,8 +1,8 @@
 -- Laws of the program's reading, from those of the reading of trees.
 use Rattle.std.specs.Prelude.{◌≤◌, ◌≡◌, ℕ, ◌+◌, ◌<◌, Bool, List, [], ◌∷◌, ◌++◌, length}
 use Rattle.std.proofs.Common.{ap, sym, subst, ◌∙◌, append_assoc}
-use Rattle.demangle_tree.specs.Table.{Entry, cut, sizes, added}
-use Rattle.demangle_tree.specs.Core.{Core}
+use Rattle.demangle_core.specs.Table.{Entry, cut, sizes, added}
+use Rattle.demangle_core.specs.Core.{Core}
 use Rattle.demangle_grammar.specs.Rule.{Row}
 use Rattle.demangle_grammar.specs.Tree.{trees, Tree, components}
 use Rattle.demangle_grammar.specs.Rows.{rule}
@@ -17,7 +17,7 @@ use Rattle.demangle_grammar.proofs.Derived.{reads}
 use Rattle.demangle_grammar.proofs.Takes.{took_byte, row_takes}
 use Rattle.demangle_grammar.proofs.Cores.{reads_cores}
 use Rattle.demangle_grammar.proofs.Bridge.{reads_code}
-use Rattle.demangle_tree.proofs.Cuts.{cut_same, cut_added, cut_cut}
+use Rattle.demangle_core.proofs.Cuts.{cut_same, cut_added, cut_cut}
 
 -- ---- each state of the program is seen of a state
 abbrev state_of : Here → State

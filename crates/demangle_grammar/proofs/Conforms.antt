@@ -1,9 +1,9 @@
 -- What is compared of a reading of given bytes.
 use Rattle.std.specs.Prelude.{◌≡◌, ℕ, ◌&&◌, ◌||◌, nat_le, Bool, false, zero, suc, List, [], ◌∷◌}
 use Rattle.std.proofs.Common.{ap, ◌∙◌, arith}
-use Rattle.demangle_tree.specs.Table.{Entry, count}
+use Rattle.demangle_core.specs.Table.{Entry, count}
 use Rattle.demangle_text.specs.Kind.{Cause}
-use Rattle.demangle_tree.specs.Core.{Core, Which, N, U}
+use Rattle.demangle_core.specs.Core.{Core, Which, N, U}
 use Rattle.demangle_grammar.specs.Rule.{Row, Rule}
 use Rattle.demangle_grammar.specs.Items.{Item}
 use Rattle.demangle_grammar.specs.Tree.{Tree, core, nil}

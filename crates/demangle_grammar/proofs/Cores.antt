@@ -1,8 +1,8 @@
 -- A reading of cores is the reading of trees, and then their cores.
 use Rattle.std.specs.Prelude.{◌≡◌, ℕ, zero, suc, Bool, true, false, List, length, take, drop, nat_lt, ◌||◌, codes}
 use Rattle.std.proofs.Common.{refl, ap, ◌∙◌}
-use Rattle.demangle_tree.specs.Table.{count}
-use Rattle.demangle_tree.specs.Core.{Core, end, N, ◌⊕◌}
+use Rattle.demangle_core.specs.Table.{count}
+use Rattle.demangle_core.specs.Core.{Core, end, N, ◌⊕◌}
 use Rattle.demangle_grammar.specs.Rule.{Row, Rule, Class, Leaf}
 use Rattle.demangle_grammar.specs.Tree.{Tree, How, nil, core, trees, cores, component_of, shape}
 use Rattle.demangle_grammar.specs.Rows.{rule}

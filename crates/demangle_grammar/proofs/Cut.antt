@@ -6,7 +6,7 @@ use Rattle.demangle_grammar.specs.Rule.{Row, Rule, Class}
 use Rattle.demangle_grammar.specs.Tree.{trees, Tree, nil, How}
 use Rattle.demangle_grammar.specs.Rows.{rule}
 use Rattle.demangle_grammar.specs.Reading.{State, Answer, Yes, No, Deep, stepped, found, where_so, answer, go_on, flat, after, entered, Measured, next_do, or_else, hard, soft, ended, many, turned, turn, turns, sized, whole, is_empty, widened, ahead_by, trial_of, tried, next_is, run_rule, read_from, measure_from}
-use Rattle.demangle_tree.specs.Core.{Core}
+use Rattle.demangle_core.specs.Core.{Core}
 use Rattle.demangle_grammar.proofs.Steps.{step_then}
 use Rattle.demangle_text.specs.Number.{natural_at}
 use Rattle.demangle_text.specs.Kind.{Cause, End, Text}

@@ -1,6 +1,6 @@
 -- The grammar with no order of alternatives, no level and no trial: what a rule leads to from a state and the parts so far.
 use Rattle.std.specs.Prelude.{◌≡◌, ℕ, ◌≤◌, Bool, [], length, take, drop}
-use Rattle.demangle_tree.specs.Core.{end}
+use Rattle.demangle_core.specs.Core.{end}
 use Rattle.demangle_grammar.specs.Rule.{Row, Make, Leaf, Rule}
 use Rattle.demangle_grammar.specs.Tree.{Tree, How, nil}
 use Rattle.demangle_grammar.specs.Rows.{rule}

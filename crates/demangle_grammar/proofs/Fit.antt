@@ -3,8 +3,8 @@ use Rattle.std.specs.Prelude.{◌≡◌, ℕ, zero, suc, ◌+◌, ◌-◌, Bool,
 use Rattle.std.proofs.Common.{refl, subst, sym, ap, ◌∙◌, arith, length-append, length-take}
 use Rattle.std.proofs.Math.Seq.{drop-append_seam}
 use Rattle.std.proofs.lemmas.Bool.{ltb-true}
-use Rattle.demangle_tree.specs.Table.{count}
-use Rattle.demangle_tree.specs.Core.{Core, end, place, number, N}
+use Rattle.demangle_core.specs.Table.{count}
+use Rattle.demangle_core.specs.Core.{Core, end, place, number, N}
 use Rattle.demangle_grammar.specs.Rule.{Class, Eat, Leaf, Rule}
 use Rattle.demangle_grammar.specs.Tree.{trees, Tree, nil, core, spell, components, component_of, How}
 use Rattle.demangle_grammar.specs.Rows.{rule}

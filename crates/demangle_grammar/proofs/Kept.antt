@@ -3,11 +3,11 @@ use Rattle.std.specs.Prelude.{slice_get, None, Some, ◌≡◌, ◌⊎◌, ℕ, 
 use Rattle.std.proofs.Common.{inl, inr, refl, subst, sym, ap, ◌∙◌, arith, append_assoc, length-append, Some}
 use Rattle.std.proofs.lemmas.List.{take-append-drop}
 use Rattle.std.proofs.lemmas.Bool.{ltb-true}
-use Rattle.demangle_tree.specs.Table.{Entry, count, entry_at, listed, more_if}
-use Rattle.demangle_tree.specs.Core.{same_which, Core, end, number, Which, N, U}
+use Rattle.demangle_core.specs.Table.{Entry, count, entry_at, listed, more_if}
+use Rattle.demangle_core.specs.Core.{same_which, Core, end, number, Which, N, U}
 use Rattle.demangle_grammar.specs.Rule.{Rule, Leaf, Eat, Given}
 use Rattle.demangle_grammar.specs.Tree.{trees, Tree, How, nil, core, IsOfEntry, spell, components, Sound, HowSound, adds, component_of, template_entry}
-use Rattle.demangle_tree.specs.Sound.{RefersTo}
+use Rattle.demangle_core.specs.Sound.{RefersTo}
 use Rattle.demangle_grammar.specs.Reading.{State, Answer, Yes, stepped, found, where_so, answer, go_on, find, holds, marks, kept, prefix_entry, is_nestable, widened, ahead_by, run_found, is_in, worded, numbered, entry_of, refusal, last_component, or_end}
 use Rattle.demangle_grammar.proofs.Derives.{Derives, narrowed, digits_of}
 use Rattle.demangle_grammar.proofs.Holds.{Holds}

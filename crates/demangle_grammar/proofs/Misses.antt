@@ -1,7 +1,7 @@
 -- A leaf that stops fails where the next byte isn't one with which it begins.
 use Rattle.std.specs.Prelude.{◌≡◌, ℕ, Bool, true, false, cond, ◌&&◌, ◌||◌, List, [], ◌∷◌, length, drop, ◌==◌}
 use Rattle.std.proofs.Common.{refl, subst, sym, ap}
-use Rattle.demangle_tree.specs.Core.{Core}
+use Rattle.demangle_core.specs.Core.{Core}
 use Rattle.demangle_grammar.specs.Rule.{Leaf, Eat, Cond, Class}
 use Rattle.demangle_grammar.specs.Tree.{trees, Tree}
 use Rattle.demangle_grammar.specs.Reading.{State, Answer, No, stepped, found, where_so, answer, go_on, find, run_at, run_found, is_in, next_is, any_starts, no_digit, numbered, worded}

@@ -2,8 +2,8 @@
 use Rattle.std.specs.Prelude.{◌≡◌, ◌≢◌, ℕ, zero, suc, ◌+◌, ◌*◌, ◌≤◌, ◌<◌, Bool, true, false, not, ◌&&◌, ◌||◌, List, [], ◌∷◌, length, take, drop, nat_lt, codes}
 use Rattle.std.proofs.Common.{refl, subst, sym, arith, length-take, length-drop}
 use Rattle.std.proofs.lemmas.Bool.{ltb-true}
-use Rattle.demangle_tree.specs.Table.{count}
-use Rattle.demangle_tree.specs.Core.{Core, N}
+use Rattle.demangle_core.specs.Table.{count}
+use Rattle.demangle_core.specs.Core.{Core, N}
 use Rattle.demangle_grammar.specs.Rule.{Row, Rule, Class, Leaf}
 use Rattle.demangle_grammar.specs.Tree.{trees, Tree, How, nil, core, component_of}
 use Rattle.demangle_grammar.specs.Rows.{rule}

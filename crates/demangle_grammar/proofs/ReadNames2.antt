@@ -1,8 +1,8 @@
 -- Readings of whole names, by computation. Written by tools/conformance.py.
 use Rattle.std.specs.Prelude.{false, codes, pos}
 use Rattle.std.proofs.Common.{refl}
-use Rattle.demangle_tree.specs.Core.{Tag, N, U, end, node, place, number, flag, chosen, ref, mark}
-use Rattle.demangle_tree.specs.Table.{entry_at}
+use Rattle.demangle_core.specs.Core.{Tag, N, U, end, node, place, number, flag, chosen, ref, mark}
+use Rattle.demangle_core.specs.Table.{entry_at}
 use Rattle.demangle_grammar.specs.Rule.{Row}
 use Rattle.demangle_grammar.specs.Rows.{rule}
 use Rattle.demangle_grammar.specs.Reading.{run_rule, measure_from}

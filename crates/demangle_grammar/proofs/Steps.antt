@@ -1,8 +1,8 @@
 -- A leaf and what comes after it.
 use Rattle.std.specs.Prelude.{◌≡◌, Bool, true, false, length, take, nat_lt}
 use Rattle.std.proofs.Common.{refl}
-use Rattle.demangle_tree.specs.Table.{count}
-use Rattle.demangle_tree.specs.Core.{end, N, Core}
+use Rattle.demangle_core.specs.Table.{count}
+use Rattle.demangle_core.specs.Core.{end, N, Core}
 use Rattle.demangle_grammar.specs.Rule.{Leaf}
 use Rattle.demangle_grammar.specs.Tree.{trees, Tree, How, core, component_of}
 use Rattle.demangle_grammar.specs.Reading.{State, Answer, Yes, step, stepped, found, where_so, next_do, answer, go_on, find, holds, refusal, prefix_entry, is_nestable, ahead_by}

@@ -1,7 +1,7 @@
 -- What takes a byte, by the rule, does.
 use Rattle.std.specs.Prelude.{◌≡◌, ℕ, zero, suc, ◌≤◌, ◌<◌, Bool, true, false, cond, ◌&&◌, List, [], ◌∷◌, length, take, drop, ◌-◌, pos, ℤ}
 use Rattle.std.proofs.Common.{refl, subst, sym, arith, length-drop}
-use Rattle.demangle_tree.specs.Core.{Core, end, number}
+use Rattle.demangle_core.specs.Core.{Core, end, number}
 use Rattle.demangle_grammar.specs.Rule.{Row, Rule, Leaf, Eat, Cond}
 use Rattle.demangle_grammar.specs.Tree.{trees, Tree}
 use Rattle.demangle_grammar.specs.Rows.{rule}

@@ -1,12 +1,12 @@
 -- The reading as the program does it: of cores, with the parts so far in a list, and with the kind `Deep` for what ends all reading.
 use Rattle.std.specs.Prelude.{ℕ, zero, suc, Bool, true, false, List, [], ◌∷◌, ◌++◌, length, take, nat_lt, nat_eq, ◌==◌, ◌||◌, if◌then◌else◌, pos, codes, Result, Ok, Err, Option, Some, None}
-use Rattle.demangle_tree.specs.Core.{Core, end, number, flag, chosen, mark, ◌⊕◌, Which, N, U}
+use Rattle.demangle_core.specs.Core.{Core, end, number, flag, chosen, mark, ◌⊕◌, Which, N, U}
 use Rattle.demangle_text.specs.Kind.{Kind, End, Text, Bad, Unread, Deep, ends}
 use Rattle.demangle_text.specs.Spot.{Spot, skip}
 use Rattle.demangle_text.specs.Found.{and_rest}
 use Rattle.demangle_text.specs.Word.{starts, word_at}
 use Rattle.demangle_text.specs.Number.{number_from, natural_from}
-use Rattle.demangle_tree.specs.Table.{Table, added, size}
+use Rattle.demangle_core.specs.Table.{Table, added, size}
 use Rattle.demangle_grammar.specs.Rule.{Given, Class, Row, Eat, Leaf, Rule}
 use Rattle.demangle_grammar.specs.Tree.{How, shape, component_of, template_entry, taken_of, reference}
 use Rattle.demangle_grammar.specs.Rows.{rule}

@@ -1,8 +1,8 @@
 -- Trees without their table and their input: each reference is the entry that it is to, each place its bytes.
 use Rattle.std.specs.Prelude.{ℕ, zero, suc, ℤ, Bool, List, length, Option, Some, None}
-use Rattle.demangle_tree.specs.Core.{Core, Tag, Which}
-use Rattle.demangle_tree.specs.Core as core
-use Rattle.demangle_tree.specs.Table.{Table, entry_at}
+use Rattle.demangle_core.specs.Core.{Core, Tag, Which}
+use Rattle.demangle_core.specs.Core as core
+use Rattle.demangle_core.specs.Table.{Table, entry_at}
 use Rattle.demangle_grammar.specs.Sound.{bytes_of}
 
 -- a row of expanded trees, the first of them first

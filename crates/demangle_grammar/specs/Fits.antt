@@ -1,7 +1,7 @@
 -- The grammar as a check on a finished tree: it reads nothing, knows no order of alternatives, no level and no trial.
 use Rattle.std.specs.Prelude.{◌≡◌, ℕ, zero, suc, ◌+◌, ◌-◌, ◌^◌, ◌<◌, ◌⊎◌, Bool, true, false, not, List, [], ◌∷◌, ◌++◌, length, take, drop, ◌==◌, ℤ, pos, neg_ℤ}
-use Rattle.demangle_tree.specs.Table.{count}
-use Rattle.demangle_tree.specs.Core.{Core, end, place, number, chosen, mark, N, U}
+use Rattle.demangle_core.specs.Table.{count}
+use Rattle.demangle_core.specs.Core.{Core, end, place, number, chosen, mark, N, U}
 use Rattle.demangle_grammar.specs.Rule.{Row, Make, Eat, Leaf, Rule}
 use Rattle.demangle_grammar.specs.Tree.{Tree, How, nil, core, spell, components, component_of}
 use Rattle.demangle_grammar.specs.Rows.{rule}

@@ -1,7 +1,7 @@
 -- The notation of the rows. An item is put before what is read after it: `a · b` is a and then b, `a // b` is a or else b.
 use Rattle.std.specs.Prelude.{ℕ, false, codes}
 use Prim.Native.String.{String}
-use Rattle.demangle_tree.specs.Core.{Tag}
+use Rattle.demangle_core.specs.Core.{Tag}
 use Rattle.demangle_grammar.specs.Rule.{Class, Row, Eat, Cond, Make, Mark, Given, Leaf, Rule}
 
 abbrev pub Item : Type 0

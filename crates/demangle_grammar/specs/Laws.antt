@@ -1,11 +1,11 @@
 -- What holds of each reading. A row is read from a state, which holds the index, the bytes that are left and the entries of
 -- both lists so far; `nil` says that no parts were read before it.
 use Rattle.std.specs.Prelude.{◌≡◌, ◌≢◌, ℕ, suc, false, ◌∷◌, codes, ◌+◌, ◌-◌, ◌<◌, ◌≤◌, ◌↔◌, Bool, true, List, [], ◌++◌, length}
-use Rattle.demangle_tree.specs.Table.{Entry, cut, sizes, Table}
-use Rattle.demangle_tree.specs.Core.{Core, end, node, place, ◌⊕◌, Tag, N, U}
+use Rattle.demangle_core.specs.Table.{Entry, cut, sizes, Table}
+use Rattle.demangle_core.specs.Core.{Core, end, node, place, ◌⊕◌, Tag, N, U}
 use Rattle.demangle_grammar.specs.Rule.{Row}
 use Rattle.demangle_grammar.specs.Tree.{Tree, trees, cores, reference, core, nil, spell, components, Sound}
-use Rattle.demangle_tree.specs.Sound.{RefersTo, ReferBack, RefsSound}
+use Rattle.demangle_core.specs.Sound.{RefersTo, ReferBack, RefsSound}
 use Rattle.demangle_grammar.specs.Rows.{rule}
 use Rattle.demangle_grammar.specs.Reading.{State, Answer, Yes, No, Deep, read_from, read_all, levels_of}
 use Rattle.demangle_grammar.specs.Fits.{Fits}

@@ -1,7 +1,7 @@
 -- The ordered reading of rows.
 use Rattle.std.specs.Prelude.{ℕ, zero, suc, ◌+◌, ◌-◌, Bool, true, false, cond, not, ◌&&◌, ◌||◌, List, [], ◌∷◌, ◌++◌, length, take, drop, nat_lt, nat_le, ◌==◌, ℤ, pos, codes, max, Option, Some, None}
-use Rattle.demangle_tree.specs.Core.{Core, end, node, place, number, flag, chosen, ref, mark, Tag, Which, N, U}
-use Rattle.demangle_tree.specs.Table.{Entry, count, entry_at}
+use Rattle.demangle_core.specs.Core.{Core, end, node, place, number, flag, chosen, ref, mark, Tag, Which, N, U}
+use Rattle.demangle_core.specs.Table.{Entry, count, entry_at}
 use Rattle.demangle_text.specs.Kind.{Cause, End, Text, Bad}
 use Rattle.demangle_text.specs.Found.{Found, took, none, mapped}
 use Rattle.demangle_text.specs.Bytes.{is_digit, is_capital, is_small, span}

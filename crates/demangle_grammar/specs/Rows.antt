@@ -3,7 +3,7 @@
 -- other alternative of the row is tried.
 use Rattle.std.specs.Prelude.{true, false, [], ◌∷◌, codes}
 use Prim.Native.String.{String}
-use Rattle.demangle_tree.specs.Core.{Tag}
+use Rattle.demangle_core.specs.Core.{Tag}
 use Rattle.demangle_grammar.specs.Rule.{Class, Row, Eat, Cond, Make, Mark, Given, Leaf, Rule}
 use Rattle.demangle_vocab.specs.Operators.{operator_words}
 use Rattle.demangle_vocab.specs.Builtins.{builtin_words}

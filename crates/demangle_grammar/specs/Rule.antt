@@ -1,6 +1,6 @@
 -- What a row of the grammar is made of. A rule holds what is read after it, so no lists of items are needed.
 use Rattle.std.specs.Prelude.{ℕ, Bool, List}
-use Rattle.demangle_tree.specs.Core.{Tag}
+use Rattle.demangle_core.specs.Core.{Tag}
 
 -- The rows. Three of them the grammar's text doesn't name: qualifiers of which there is one at least, the first turn of a
 -- prefix, and a later turn, which goes on from the prefix so far.

@@ -1,5 +1,5 @@
 -- A state of the reading as the program sees it.
-use Rattle.demangle_tree.specs.Core.{Core}
+use Rattle.demangle_core.specs.Core.{Core}
 use Rattle.demangle_text.specs.Kind.{Unread}
 use Rattle.demangle_text.specs.Kind as kind
 use Rattle.demangle_grammar.specs.Reading.{State, Answer, Yes, No, Deep}

@@ -1,10 +1,10 @@
 -- Sound nodes and tables: what printing and the look-ups ask of a node, its table and the input.
 use Rattle.std.specs.Prelude.{◌⊎◌, ◌≡◌, ℕ, ◌≤◌, ◌-◌, ◌==◌, List, [], ◌∷◌, ◌++◌, length, take, drop, not, codes}
-use Rattle.demangle_tree.specs.Core.{Core, Tag, end, node, place, number, flag, chosen, ref, mark}
-use Rattle.demangle_tree.specs.Table.{Entry, Table}
+use Rattle.demangle_core.specs.Core.{Core, Tag, end, node, place, number, flag, chosen, ref, mark}
+use Rattle.demangle_core.specs.Table.{Entry, Table}
 use Rattle.demangle_grammar.specs.Rule.{Class}
 use Rattle.demangle_grammar.specs.Reading.{is_in}
-use Rattle.demangle_tree.specs.Sound.{RefersTo, ReferBack}
+use Rattle.demangle_core.specs.Sound.{RefersTo, ReferBack}
 use Rattle.demangle_grammar.specs.Fits.{AllOf, IsSome}
 
 -- the bytes from one index up to another

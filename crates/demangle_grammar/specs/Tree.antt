@@ -1,8 +1,8 @@
 -- Trees that were read: what they spell, their core, and their components.
 use Rattle.std.specs.Prelude.{◌⊎◌, ◌≡◌, ℕ, suc, ◌+◌, ◌<◌, List, [], ◌∷◌, ◌++◌, pos}
-use Rattle.demangle_tree.specs.Sound.{RefersTo}
-use Rattle.demangle_tree.specs.Core.{Core, end, node, place, number, chosen, ref, ◌⊕◌, Tag, Which, N, U}
-use Rattle.demangle_tree.specs.Table.{Entry, count}
+use Rattle.demangle_core.specs.Sound.{RefersTo}
+use Rattle.demangle_core.specs.Core.{Core, end, node, place, number, chosen, ref, ◌⊕◌, Tag, Which, N, U}
+use Rattle.demangle_core.specs.Table.{Entry, count}
 use Rattle.demangle_grammar.specs.Rule.{Make}
 
 -- what a node of a tree that was read is

@@ -1,9 +1,9 @@
 -- The index goes with the bytes, for places and tables apart.
 use Rattle.std.specs.Prelude.{◌≡◌, ℕ, ◌+◌, Bool, [], length}
 use Rattle.demangle_text.specs.Spot.{Spot}
-use Rattle.demangle_tree.specs.Core.{Core}
+use Rattle.demangle_core.specs.Core.{Core}
 use Rattle.demangle_grammar.specs.Rule.{Row}
-use Rattle.demangle_tree.specs.Table.{Table}
+use Rattle.demangle_core.specs.Table.{Table}
 use Rattle.demangle_grammar.specs.Code.{here, Found, cread}
 use Rattle.demangle_grammar.proofs.CodeLaws as laws
 

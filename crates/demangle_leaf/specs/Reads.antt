@@ -4,9 +4,9 @@ use Rattle.demangle_text.specs.Kind.{kind}
 use Rattle.demangle_text.specs.Spot.{spot}
 use Rattle.demangle_text.specs.declared.index_str.IndexStr.{IndexStr}
 use Rattle.demangle_text.specs.declared.error.Error.{Error}
-use Rattle.demangle_tree.specs.Core.{Core}
+use Rattle.demangle_core.specs.Core.{Core}
 use Rattle.demangle_grammar.specs.Rule.{Row}
-use Rattle.demangle_tree.specs.Table.{Table}
+use Rattle.demangle_core.specs.Table.{Table}
 use Rattle.demangle_grammar.specs.Code.{here, Reply, Found, Refused, cread}
 use Rattle.demangle_leaf.specs.Context.{Context, levels_left}
 

@@ -4,7 +4,7 @@ ghost use Rattle.std.specs.Prelude.{◌≡◌, ◌≤◌, ◌<◌, length, pos, 
 ghost use Rattle.demangle_text.specs.Kind.{Gives};
 ghost use Rattle.demangle_text.specs.Spot.{spot};
 ghost use Rattle.demangle_text.specs.Bytes.{span};
-ghost use Rattle.demangle_tree.specs.Core.{end, number, place};
+ghost use Rattle.demangle_core.specs.Core.{end, number, place};
 ghost use Rattle.demangle_grammar.specs.Rule.{Eat};
 ghost use Rattle.demangle_grammar.specs.Reading.{is_in};
 ghost use Rattle.demangle_grammar.specs.Code.{eat_at, taken_word};

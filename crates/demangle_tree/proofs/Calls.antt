@@ -4,11 +4,11 @@ use Rattle.std.proofs.lemmas.List.{map-append, length-map, length-append, length
 use Rattle.std.proofs.lemmas.Option.{slice_get-map}
 use Rattle.std.specs.List.{take-map}
 use Rattle.std.specs.Prelude.{slice_get, Option, Some, None, option_map, IfSome, MatchOption}
-use Rattle.demangle_tree.specs.Core.{Core, Which, N, U}
-use Rattle.demangle_tree.specs.Table.{Entry, Table, count, listed, first_of, added, size, sizes, cut, entry_at, empty_table, numbered}
+use Rattle.demangle_core.specs.Core.{Core, Which, N, U}
+use Rattle.demangle_core.specs.Table.{Entry, Table, count, listed, first_of, added, size, sizes, cut, entry_at, empty_table, numbered}
 use Rattle.demangle_tree.specs.View.{table_from, entry_trees, woven, Rise, Climb}
-use Rattle.demangle_tree.specs.TreeEntries.{tree_of_substitutable}
-use Rattle.demangle_tree.specs.declared.entries.Substitutable.{Substitutable}
+use Rattle.demangle_nodes.specs.TreeEntries.{tree_of_substitutable}
+use Rattle.demangle_nodes.specs.declared.entries.Substitutable.{Substitutable}
 use Rattle.demangle_tree.proofs.Woven.{numbered_more, other_more, cut_woven, first_list, second_list, counted, rise_more, rise_push, rise_down, climb_all, climb_part}
 
 got_is : (k : ℕ) (x : Substitutable) (ns : List Substitutable) → k < length ns → x ≡ get_or ns k x → slice_get ns k ≡ Some x

@@ -1,7 +1,7 @@
 -- Following references.
 use Rattle.std.proofs.Common.{◌≡◌, refl, ap, ◌∙◌, sym, ℕ, zero, suc, false, true, ◌-◌, ◌<◌, arith, subst}
-use Rattle.demangle_tree.specs.Core.{Core}
-use Rattle.demangle_tree.specs.Table.{Table}
+use Rattle.demangle_core.specs.Core.{Core}
+use Rattle.demangle_core.specs.Table.{Table}
 use Rattle.demangle_tree.specs.Lookups.{Next, answer, nothing, at, after, answer_of, refers, resolve}
 
 module _ (step : Core → Next) (t : Table) where

@@ -3,10 +3,10 @@ use Rattle.std.proofs.Common.{◌≡◌, refl, ap, ◌∙◌, sym, subst, ℕ, s
 use Rattle.std.proofs.lemmas.Bool.{cases_lt}
 use Rattle.std.proofs.Math.ListN.{set}
 use Rattle.std.proofs.lemmas.List.{length-take, length-map}
-use Rattle.demangle_tree.specs.Core.{Core, Which, N, U}
-use Rattle.demangle_tree.specs.Table.{Entry, Table, count, first_of, listed, added, size, sizes, cut}
+use Rattle.demangle_core.specs.Core.{Core, Which, N, U}
+use Rattle.demangle_core.specs.Table.{Entry, Table, count, first_of, listed, added, size, sizes, cut}
 use Rattle.demangle_tree.specs.View.{all_of, woven, Rise, Climb}
-use Rattle.demangle_tree.proofs.Cuts.{entry}
+use Rattle.demangle_core.proofs.Cuts.{entry}
 
 -- ---- lists
 all_behind : (w : Which) (xs ys : List Core) → all_of w (xs ++ ys) ≡ all_of w xs ++ all_of w ys

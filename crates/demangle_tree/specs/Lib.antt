@@ -1,11 +1,3 @@
-pub mod Core
-pub mod Same
-pub mod Fields
-pub mod Table
-pub mod Sound
-pub mod TreeLeaves
-pub mod TreeNodes
-pub mod TreeEntries
 pub mod Lookups
 pub mod LookupsOf
 pub mod View

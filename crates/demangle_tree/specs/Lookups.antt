@@ -2,8 +2,8 @@
 -- or a conversion. Each is said of a tree in one step, which ends with an answer or with a component that has the same
 -- answer. A table has only so many components, so only so many of them are asked.
 use Rattle.std.specs.Prelude.{ℕ, zero, suc, Bool, true, false, ◌+◌, List, [], ◌∷◌, Option, Some, None, is_some}
-use Rattle.demangle_tree.specs.Core.{Tag, Core, Which, N, U, end, node, place, number, flag, chosen, ref, mark}
-use Rattle.demangle_tree.specs.Table.{Table, entry_at, size}
+use Rattle.demangle_core.specs.Core.{Tag, Core, Which, N, U, end, node, place, number, flag, chosen, ref, mark}
+use Rattle.demangle_core.specs.Table.{Table, entry_at, size}
 
 pub data Next : Type 0 where
   -- this is the answer

@@ -1,5 +1,5 @@
 -- The table of a node of the code.
-use Rattle.demangle_tree.specs.Table.{Table}
+use Rattle.demangle_core.specs.Table.{Table}
 use Rattle.demangle_tree.specs.View.{table_from}
 use Rattle.demangle_tree.specs.declared.table.SubstitutionTable.{SubstitutionTable}
 

@@ -3,12 +3,12 @@
 ghost use Rattle.std.specs.Prelude.{◌≡◌};
 ghost use Rattle.demangle_tree.specs.TableOf.{table_of};
 
-use crate::entries::Substitutable;
 use crate::table::SubstitutionTable;
+use demangle_nodes::Substitutable;
 
 /// Two components inserted, one in each list, and given back by a cut to the lengths before: the table is as it was,
 /// whether or not there was memory for them.
-#[tactic(auto, using(crate::proofs::Cuts::cuts))]
+#[tactic(auto, using(demangle_core::proofs::Cuts::cuts))]
 pub fn insert_and_cut_back(
     subs: &mut SubstitutionTable,
     numbered: Substitutable,

@@ -6,22 +6,16 @@
 ghost use Rattle.std.specs.Prelude.{◌≡◌, ◌+◌, option_map};
 ghost use Rattle.demangle_tree.specs.Lookups.{after, else_next, leaf_name, leaf_step, resolve};
 ghost use Rattle.demangle_tree.specs.LookupsOf.{next_of, tree_of_leaf_name};
-ghost use Rattle.demangle_tree.specs.Core.{N, U};
-ghost use Rattle.demangle_tree.specs.Table.{size};
+ghost use Rattle.demangle_core.specs.Core.{N, U};
+ghost use Rattle.demangle_core.specs.Table.{size};
 ghost use Rattle.demangle_tree.specs.TableOf.{table_of};
-ghost use Rattle.demangle_tree.specs.TreeLeaves.{tree_of_well_known_component, tree_of_nested_name, tree_of_prefix_handle, tree_of_template_template_param_handle, tree_of_type_handle, tree_of_unqualified_name, tree_of_unresolved_type_handle, tree_of_unscoped_name, tree_of_unscoped_template_name, tree_of_unscoped_template_name_handle, tree_of_non_substitution, tree_of_builtin_type, tree_of_qualified_builtin, tree_of_closure_type_name, tree_of_data_member_prefix};
-ghost use Rattle.demangle_tree.specs.TreeNodes.{tree_of_name, tree_of_local_name};
-ghost use Rattle.demangle_tree.specs.TreeEntries.{tree_of_prefix, tree_of_class_enum_type, tree_of_type_node, tree_of_substitutable};
+ghost use Rattle.demangle_nodes.specs.TreeLeaves.{tree_of_well_known_component, tree_of_nested_name, tree_of_prefix_handle, tree_of_template_template_param_handle, tree_of_type_handle, tree_of_unqualified_name, tree_of_unresolved_type_handle, tree_of_unscoped_name, tree_of_unscoped_template_name, tree_of_unscoped_template_name_handle, tree_of_non_substitution, tree_of_builtin_type, tree_of_qualified_builtin, tree_of_closure_type_name, tree_of_data_member_prefix};
+ghost use Rattle.demangle_nodes.specs.TreeNodes.{tree_of_name, tree_of_local_name};
+ghost use Rattle.demangle_nodes.specs.TreeEntries.{tree_of_prefix, tree_of_class_enum_type, tree_of_type_node, tree_of_substitutable};
 
-use crate::entries::{ClassEnumType, LeafName, Prefix, Substitutable, TypeNode};
-use crate::leaves::{
-    BuiltinType, ClosureTypeName, DataMemberPrefix, NestedName, NonSubstitution, PrefixHandle,
-    QualifiedBuiltin, TemplateTemplateParamHandle, TypeHandle, UnqualifiedName,
-    UnresolvedTypeHandle, UnscopedName, UnscopedTemplateName, UnscopedTemplateNameHandle,
-};
-use crate::nodes::{LocalName, Name};
 use crate::steps::LeafStep;
 use crate::table::SubstitutionTable;
+use demangle_nodes::{BuiltinType, ClassEnumType, ClosureTypeName, DataMemberPrefix, LeafName, LocalName, Name, NestedName, NonSubstitution, Prefix, PrefixHandle, QualifiedBuiltin, Substitutable, TemplateTemplateParamHandle, TypeHandle, TypeNode, UnqualifiedName, UnresolvedTypeHandle, UnscopedName, UnscopedTemplateName, UnscopedTemplateNameHandle};
 use demangle_vocab::WellKnownComponent;
 
 fn leaf_of_well_known_component<'a>(node: &'a WellKnownComponent) -> LeafStep<'a>
@@ -172,7 +166,7 @@ fn leaf_of_nested_name<'a>(node: &'a NestedName) -> LeafStep<'a>
 }
 
 #[cycle(leaf)]
-#[tactic(auto, using(crate::proofs::Parts::parts_name))]
+#[tactic(auto, using(demangle_nodes::proofs::Parts::parts_name))]
 fn leaf_of_name<'a>(node: &'a Name) -> LeafStep<'a>
     ensures { next_of result ≡ leaf_step (tree_of_name node.now) }
 {
@@ -185,7 +179,7 @@ fn leaf_of_name<'a>(node: &'a Name) -> LeafStep<'a>
 }
 
 #[cycle(leaf)]
-#[tactic(auto, using(crate::proofs::Parts::parts_local_name))]
+#[tactic(auto, using(demangle_nodes::proofs::Parts::parts_local_name))]
 fn leaf_of_local_name<'a>(node: &'a LocalName) -> LeafStep<'a>
     ensures { next_of result ≡ leaf_step (tree_of_local_name node.now) }
 {

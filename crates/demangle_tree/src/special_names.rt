@@ -1,20 +1,18 @@
 //! Whether a name is that of a constructor, a destructor or a conversion, which have no return type in their signature.
 
 ghost use Rattle.std.specs.Prelude.{◌≡◌, ◌+◌, is_some};
-ghost use Rattle.demangle_tree.specs.Core.{N, U};
-ghost use Rattle.demangle_tree.specs.Table.{size};
+ghost use Rattle.demangle_core.specs.Core.{N, U};
+ghost use Rattle.demangle_core.specs.Table.{size};
 ghost use Rattle.demangle_tree.specs.Lookups.{after, is_special, resolve, special_step};
 ghost use Rattle.demangle_tree.specs.LookupsOf.{special_next};
 ghost use Rattle.demangle_tree.specs.TableOf.{table_of};
-ghost use Rattle.demangle_tree.specs.TreeLeaves.{tree_of_nested_name, tree_of_prefix_handle, tree_of_unqualified_name, tree_of_unscoped_name};
-ghost use Rattle.demangle_tree.specs.TreeNodes.{tree_of_name};
-ghost use Rattle.demangle_tree.specs.TreeEntries.{tree_of_prefix, tree_of_substitutable};
+ghost use Rattle.demangle_nodes.specs.TreeLeaves.{tree_of_nested_name, tree_of_prefix_handle, tree_of_unqualified_name, tree_of_unscoped_name};
+ghost use Rattle.demangle_nodes.specs.TreeNodes.{tree_of_name};
+ghost use Rattle.demangle_nodes.specs.TreeEntries.{tree_of_prefix, tree_of_substitutable};
 
-use crate::entries::{Prefix, Substitutable};
-use crate::leaves::{NestedName, OperatorName, PrefixHandle, UnqualifiedName, UnscopedName};
-use crate::nodes::Name;
 use crate::steps::SpecialStep;
 use crate::table::SubstitutionTable;
+use demangle_nodes::{Name, NestedName, OperatorName, Prefix, PrefixHandle, Substitutable, UnqualifiedName, UnscopedName};
 
 fn special_of_prefix_handle(node: &PrefixHandle) -> SpecialStep
     ensures { special_next result ≡ special_step (tree_of_prefix_handle node.now) }
@@ -65,7 +63,7 @@ fn special_of_nested_name(node: &NestedName) -> SpecialStep
     }
 }
 
-#[tactic(auto, using(crate::proofs::Parts::parts_name))]
+#[tactic(auto, using(demangle_nodes::proofs::Parts::parts_name))]
 fn special_of_name(node: &Name) -> SpecialStep
     ensures { special_next result ≡ special_step (tree_of_name node.now) }
 {

@@ -2,10 +2,9 @@
 
 ghost use Rattle.std.specs.Prelude.{◌≡◌, is_some, option_map};
 ghost use Rattle.demangle_tree.specs.Lookups.{answer_of, refers};
-ghost use Rattle.demangle_tree.specs.TreeNodes.{tree_of_template_args};
+ghost use Rattle.demangle_nodes.specs.TreeNodes.{tree_of_template_args};
 
-use crate::entries::LeafName;
-use crate::nodes::TemplateArgs;
+use demangle_nodes::{LeafName, TemplateArgs};
 
 /// What a node says of its leaf name: that it is this one, that there is none, or that it is the one of a component.
 #[derive(Clone, Copy)]

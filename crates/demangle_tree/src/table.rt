@@ -2,14 +2,13 @@
 
 ghost use Rattle.std.specs.Prelude.{◌≡◌, ℕ, ◌+◌, ◌-◌, ◌≤◌, ◌<◌, List, length, map, min, slice_get, IfOk, IfErr, OnOk, OnErr, IfSome, IfNone, IsTrue, Some, option_map, ◌↔◌};
 ghost use Rattle.std.specs.Slice.Iter.{iter_rest};
-ghost use Rattle.demangle_tree.specs.Core.{N, U};
-ghost use Rattle.demangle_tree.specs.Table.{added, cut, empty_table, entry_at, listed, numbered, size, sizes, type_behind};
-ghost use Rattle.demangle_tree.specs.TreeLeaves.{tree_of_type_handle};
-ghost use Rattle.demangle_tree.specs.TreeEntries.{tree_of_substitutable, tree_of_type_node};
+ghost use Rattle.demangle_core.specs.Core.{N, U};
+ghost use Rattle.demangle_core.specs.Table.{added, cut, empty_table, entry_at, listed, numbered, size, sizes, type_behind};
+ghost use Rattle.demangle_nodes.specs.TreeLeaves.{tree_of_type_handle};
+ghost use Rattle.demangle_nodes.specs.TreeEntries.{tree_of_substitutable, tree_of_type_node};
 ghost use Rattle.demangle_tree.specs.View.{Climb, Rise, Rise-prop, entry_trees};
 
-use crate::entries::{Substitutable, TypeNode};
-use crate::leaves::TypeHandle;
+use demangle_nodes::{Substitutable, TypeHandle, TypeNode};
 use std::alloc::Global;
 use std::slice::Iter;
 

@@ -1,20 +1,18 @@
 //! The template arguments of a name or a type.
 
 ghost use Rattle.std.specs.Prelude.{◌≡◌, ◌+◌, option_map};
-ghost use Rattle.demangle_tree.specs.Core.{N, U};
-ghost use Rattle.demangle_tree.specs.Table.{size};
+ghost use Rattle.demangle_core.specs.Core.{N, U};
+ghost use Rattle.demangle_core.specs.Table.{size};
 ghost use Rattle.demangle_tree.specs.Lookups.{after, args_of_prefix, args_of_type, args_step, prefix_args, resolve, type_args};
 ghost use Rattle.demangle_tree.specs.LookupsOf.{args_next};
 ghost use Rattle.demangle_tree.specs.TableOf.{table_of};
-ghost use Rattle.demangle_tree.specs.TreeLeaves.{tree_of_nested_name, tree_of_prefix_handle, tree_of_type_handle};
-ghost use Rattle.demangle_tree.specs.TreeNodes.{tree_of_local_name, tree_of_name, tree_of_template_args};
-ghost use Rattle.demangle_tree.specs.TreeEntries.{tree_of_prefix, tree_of_substitutable, tree_of_type_node};
+ghost use Rattle.demangle_nodes.specs.TreeLeaves.{tree_of_nested_name, tree_of_prefix_handle, tree_of_type_handle};
+ghost use Rattle.demangle_nodes.specs.TreeNodes.{tree_of_local_name, tree_of_name, tree_of_template_args};
+ghost use Rattle.demangle_nodes.specs.TreeEntries.{tree_of_prefix, tree_of_substitutable, tree_of_type_node};
 
-use crate::entries::{Prefix, Substitutable, TypeNode};
-use crate::leaves::{NestedName, PrefixHandle, TypeHandle};
-use crate::nodes::{LocalName, Name, TemplateArgs};
 use crate::steps::ArgsStep;
 use crate::table::SubstitutionTable;
+use demangle_nodes::{LocalName, Name, NestedName, Prefix, PrefixHandle, Substitutable, TemplateArgs, TypeHandle, TypeNode};
 
 fn args_of_prefix_handle<'a>(node: &'a PrefixHandle) -> ArgsStep<'a>
     ensures { args_next result ≡ args_step (tree_of_prefix_handle node.now) }
@@ -46,7 +44,7 @@ fn args_of_nested_name<'a>(node: &'a NestedName) -> ArgsStep<'a>
 }
 
 #[cycle(args)]
-#[tactic(auto, using(crate::proofs::Parts::parts_name))]
+#[tactic(auto, using(demangle_nodes::proofs::Parts::parts_name))]
 fn args_of_name<'a>(node: &'a Name) -> ArgsStep<'a>
     ensures { args_next result ≡ args_step (tree_of_name node.now) }
 {
@@ -59,7 +57,7 @@ fn args_of_name<'a>(node: &'a Name) -> ArgsStep<'a>
 }
 
 #[cycle(args)]
-#[tactic(auto, using(crate::proofs::Parts::parts_local_name))]
+#[tactic(auto, using(demangle_nodes::proofs::Parts::parts_local_name))]
 fn args_of_local_name<'a>(node: &'a LocalName) -> ArgsStep<'a>
     ensures { args_next result ≡ args_step (tree_of_local_name node.now) }
 {

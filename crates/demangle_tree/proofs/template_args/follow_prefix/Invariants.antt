@@ -1,6 +1,6 @@
 use Rattle.std.proofs.Common.{◌≡◌, ◌+◌}
-use Rattle.demangle_tree.specs.Core.{N, U}
-use Rattle.demangle_tree.specs.Table.{size}
+use Rattle.demangle_core.specs.Core.{N, U}
+use Rattle.demangle_core.specs.Table.{size}
 use Rattle.demangle_tree.specs.Lookups.{prefix_args, resolve}
 use Rattle.demangle_tree.specs.LookupsOf.{args_next}
 use Rattle.demangle_tree.specs.TableOf.{table_of}

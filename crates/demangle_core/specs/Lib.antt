@@ -1,0 +1,6 @@
+pub mod Core
+pub mod Same
+pub mod Fields
+pub mod Table
+pub mod Sound
+pub mod Laws

@@ -1,0 +1,16 @@
+//! Plain trees, of which the contracts of the syntax tree and the definitions of the grammar speak, and tables of them.
+//! Nothing here runs: each function is a law, and its contract is the statement.
+#![tactic(auto)]
+
+ghost use Rattle.demangle_core.specs.Laws.{EqualityIsAnEquivalence, CutTakesBack};
+
+/// Equality of trees, which leaves the place of argument lists out, is reflexive and symmetric, and equal trees are equal to
+/// the same trees.
+pub fn equality_is_an_equivalence()
+    ensures { EqualityIsAnEquivalence }
+{}
+
+/// What was added to a table is taken back by a cut to the sizes before.
+pub fn cut_takes_back()
+    ensures { CutTakesBack }
+{}

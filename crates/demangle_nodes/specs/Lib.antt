@@ -1,0 +1,3 @@
+pub mod TreeLeaves
+pub mod TreeNodes
+pub mod TreeEntries

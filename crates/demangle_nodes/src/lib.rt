@@ -1,0 +1,29 @@
+//! The node types of the syntax tree, the plain tree of each, and their equality and copies.
+#![tactic(auto)]
+
+mod accessors;
+mod clone_leaves;
+mod entries;
+mod leaves;
+mod nodes;
+mod same_leaves;
+mod same_names;
+
+pub use entries::{
+    ArrayType, ClassEnumType, Decltype, ExceptionSpec, FunctionType, LeafName, Prefix,
+    Substitutable, TypeNode, UnresolvedType, VectorType,
+};
+pub use leaves::{
+    AbiTag, AbiTags, BareFunctionType, BuiltinType, CallOffset, CloneSuffix, CloneTypeIdentifier,
+    ClosureTypeName, CtorDtorName, CvQualifiers, DataMemberPrefix, Discriminator, FunctionParam,
+    Identifier, LambdaSig, NestedName, NonSubstitution, Number, NvOffset, OperatorName,
+    ParametricBuiltinType, PointerToMemberType, PrefixHandle, QualifiedBuiltin, ResourceName,
+    SeqId, SourceName, Substitution, TemplateParam, TemplateTemplateParam,
+    TemplateTemplateParamHandle, TypeHandle, UnnamedTypeName, UnqualifiedName,
+    UnresolvedTypeHandle, UnscopedName, UnscopedTemplateName, UnscopedTemplateNameHandle, VOffset,
+};
+pub use nodes::{
+    BaseUnresolvedName, DestructorName, Encoding, ExprPrimary, Expression, FoldExpr,
+    GlobalCtorDtor, Initializer, LocalName, MangledName, MemberName, Name, SimpleId, SpecialName,
+    SubobjectExpr, TemplateArg, TemplateArgs, UnresolvedName, UnresolvedQualifierLevel,
+};
