@@ -2,7 +2,10 @@
 use Rattle.std.specs.Prelude.{◌≡◌, refl, Bool, true, false, ◌&&◌, ◌==◌}
 use Rattle.std.specs.Cmp.{IsEquivalence, nat_eq_equiv, int_eq_equiv, first_so, second_so}
 use Rattle.std.specs.Ordering.{int_eq}
-use Rattle.std.proofs.Common.{subst}
+use Rattle.std.proofs.Common.{subst, List}
+use Rattle.std.specs.Cmp.Lexicographic.{pointwise}
+use Rattle.std.proofs.lemmas.Cmp.{lists_equiv}
+use Rattle.demangle_core.specs.Table.{Table, listed, same_tables}
 use Rattle.demangle_core.specs.Core.{Core, Which, N, U, code, end, node, place, number, flag, chosen, ref, mark, same, same_which, same_flag, alike}
 
 abbrev IsSo : Bool → Type 0
@@ -112,3 +115,17 @@ also _ _ _ h = not_so h
 
 pub same_equiv : IsEquivalence same
 same_equiv = record { refl = itself; symm = back; congr = also }
+
+rows_equiv : IsEquivalence (pointwise same)
+rows_equiv = lists_equiv same_equiv
+
+pub same_tables_equiv : IsEquivalence same_tables
+unfolding same_tables
+same_tables_equiv = record {
+  refl = λ t. λ i. rows_equiv.refl (listed N t) i && rows_equiv.refl (listed U t) i;
+  symm = λ t u. λ i. rows_equiv.symm (listed N t) (listed N u) i && rows_equiv.symm (listed U t) (listed U u) i;
+  congr = λ t u v h.
+      let numbered = first_so (pointwise same (listed N t) (listed N u)) (pointwise same (listed U t) (listed U u)) h in
+      let others = second_so (pointwise same (listed N t) (listed N u)) (pointwise same (listed U t) (listed U u)) h in
+      λ i. rows_equiv.congr (listed N t) (listed N u) (listed N v) numbered i && rows_equiv.congr (listed U t) (listed U u) (listed U v) others i;
+}

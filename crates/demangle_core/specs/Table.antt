@@ -1,6 +1,8 @@
 -- The substitution table: its entries in the order of insertion.
 use Rattle.std.specs.Prelude.{ℕ, zero, suc, Bool, true, false, List, [], ◌∷◌, ◌++◌, map, Option, Some, None, slice_get}
-use Rattle.demangle_core.specs.Core.{Core, Tag, end, node, ref, Which, N, U, same_which}
+use Rattle.std.specs.Prelude.{◌&&◌}
+use Rattle.std.specs.Cmp.Lexicographic.{pointwise}
+use Rattle.demangle_core.specs.Core.{Core, Tag, end, node, ref, Which, N, U, same, same_which}
 
 -- A component: its list, and its tree.
 pub record Entry : Type 0 where
@@ -60,6 +62,10 @@ cut n t = first_of n.0 n.1 t
 -- The tree at a position of a list.
 unfoldable pub entry_at : Which → ℕ → Table → Option Core
 entry_at w k t = slice_get (listed w t) k
+
+-- Equality: of the trees of both lists, and not of the order between the lists.
+unfoldable pub same_tables : Table → Table → Bool
+same_tables t u = pointwise same (listed N t) (listed N u) && pointwise same (listed U t) (listed U u)
 
 -- Numbered components alone.
 unfoldable pub numbered : List Core → Table

@@ -2,12 +2,17 @@
 //! Nothing here runs: each function is a law, and its contract is the statement.
 #![tactic(auto)]
 
-ghost use Rattle.demangle_core.specs.Laws.{EqualityIsAnEquivalence, CutTakesBack};
+ghost use Rattle.demangle_core.specs.Laws.{CutTakesBack, EqualityIsAnEquivalence, EqualityOfTablesIsAnEquivalence};
 
 /// Equality of trees, which leaves the place of argument lists out, is reflexive and symmetric, and equal trees are equal to
 /// the same trees.
 pub fn equality_is_an_equivalence()
     ensures { EqualityIsAnEquivalence }
+{}
+
+/// So is equality of tables, which compares both lists and leaves out the order between them.
+pub fn equality_of_tables_is_an_equivalence()
+    ensures { EqualityOfTablesIsAnEquivalence }
 {}
 
 /// What was added to a table is taken back by a cut to the sizes before.

@@ -1,15 +1,20 @@
 //! The substitution table.
 
 ghost use Rattle.std.specs.Prelude.{◌≡◌, ℕ, ◌+◌, ◌-◌, ◌≤◌, ◌<◌, List, length, map, min, slice_get, IfOk, IfErr, OnOk, OnErr, IfSome, IfNone, IsTrue, Some, option_map, ◌↔◌};
+ghost use Rattle.std.specs.Cmp.{on_equiv, on_per, partial_equiv_from_equiv};
 ghost use Rattle.std.specs.Slice.Iter.{iter_rest};
 ghost use Rattle.demangle_core.specs.Core.{N, U};
-ghost use Rattle.demangle_core.specs.Table.{added, cut, empty_table, entry_at, listed, numbered, size, sizes, type_behind};
+ghost use Rattle.demangle_core.specs.Same.{same_tables_equiv};
+ghost use Rattle.demangle_core.specs.Table.{added, cut, empty_table, entry_at, listed, numbered, same_tables, size, sizes, type_behind};
 ghost use Rattle.demangle_nodes.specs.TreeLeaves.{tree_of_type_handle};
 ghost use Rattle.demangle_nodes.specs.TreeEntries.{tree_of_substitutable, tree_of_type_node};
+ghost use Rattle.demangle_text.specs.declared.error.Error.TheVariants.{OutOfMemory};
 ghost use Rattle.demangle_tree.specs.View.{Climb, Rise, Rise-prop, entry_trees};
 
 use demangle_nodes::{Substitutable, TypeHandle, TypeNode};
 use std::alloc::Global;
+use std::fmt;
+use std::fmt::Write;
 use std::slice::Iter;
 
 /// The components of a name in the order in which they were completed: the numbered ones, which `S_` and its like refer
@@ -182,6 +187,19 @@ impl SubstitutionTable {
         Some(last)
     }
 
+    /// A copy, with the order between both lists; `OutOfMemory` is its only refusal.
+    #[tactic(auto, using(crate::proofs::Calls::calls, crate::proofs::Copies::copies))]
+    pub fn try_clone(&self, alloc: Global) -> demangle_text::Result<SubstitutionTable>
+        ensures equal { IfOk result (λ r. table_of r ≡ table_of self.now) }
+        ensures refused { IfErr result (λ e. e ≡ OutOfMemory) }
+    {
+        let substitutions = copied(alloc, &self.substitutions)?;
+        let non_substitutions = copied(alloc, &self.non_substitutions)?;
+        let mut kept = Vec::new(alloc);
+        kept.extend_from_slice(&self.kept)?;
+        Ok(SubstitutionTable { substitutions, non_substitutions, kept })
+    }
+
     /// Cuts both lists to these lengths: what was inserted after them is gone.
     #[tactic(auto, using(crate::proofs::Calls::calls))]
     pub fn cut_back(&mut self, lengths: (usize, usize))
@@ -191,6 +209,37 @@ impl SubstitutionTable {
         self.non_substitutions.truncate(lengths.1);
         self.kept.truncate(lengths.1);
         lower(&mut self.kept, lengths.0);
+    }
+}
+
+/// Equal components in both lists; the order between the lists is left out.
+impl PartialEq for SubstitutionTable {
+    ghost use Rattle.demangle_tree.specs.TableOf.{table_of};
+
+    ghost eq = { λ a b. same_tables (table_of a) (table_of b) };
+
+    ghost laws = { on_per table_of (partial_equiv_from_equiv same_tables_equiv) };
+
+    #[tactic(auto, using(crate::proofs::Copies::copies))]
+    fn eq(&self, other: &SubstitutionTable) -> bool {
+        self.substitutions == other.substitutions
+            && self.non_substitutions == other.non_substitutions
+    }
+}
+
+impl Eq for SubstitutionTable {
+    ghost use Rattle.demangle_tree.specs.TableOf.{table_of};
+
+    ghost laws = { on_equiv table_of same_tables_equiv };
+}
+
+/// `SubstitutionTable { substitutions: [..], non_substitutions: [..] }`.
+impl fmt::Debug for SubstitutionTable {
+    fn fmt<W: Write>(&self, f: &mut fmt::Formatter<W>) -> fmt::Result {
+        f.debug_struct("SubstitutionTable")
+            .field("substitutions", &self.substitutions)
+            .field("non_substitutions", &self.non_substitutions)
+            .finish()
     }
 }
 
@@ -204,4 +253,15 @@ fn lower(counts: &mut Vec<usize>, most: usize)
         i -= 1;
         counts[i] = most;
     }
+}
+
+fn copied(alloc: Global, entries: &[Substitutable]) -> demangle_text::Result<Vec<Substitutable>>
+    ensures copied { IfOk result (λ r. entry_trees r.items ≡ entry_trees entries.now) }
+    ensures refused { IfErr result (λ e. e ≡ OutOfMemory) }
+{
+    let mut copy = Vec::new(alloc);
+    for entry in entries {
+        copy.push(entry.try_clone(alloc)?)?;
+    }
+    Ok(copy)
 }
