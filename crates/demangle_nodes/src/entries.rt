@@ -109,7 +109,7 @@ pub enum Substitutable {
 }
 
 /// The last identifier of a name, which a constructor, a destructor or a member function takes over from its class.
-#[derive(Clone, Copy)]
+#[derive(Clone, Copy, Debug)]
 pub enum LeafName<'a> {
     SourceName(&'a SourceName),
     WellKnownComponent(&'a WellKnownComponent),

@@ -69,7 +69,7 @@ pub struct DataMemberPrefix(pub SourceName);
 pub struct CloneSuffix(pub CloneTypeIdentifier, pub Vec<isize>);
 
 /// `restrict`, `volatile` and `const`. ABI section 5.1.5.1, `<CV-qualifiers>`.
-#[derive(Clone, Copy, Debug, Default)]
+#[derive(Clone, Copy, Debug)]
 pub struct CvQualifiers {
     pub restrict: bool,
     pub volatile: bool,
