@@ -6,7 +6,6 @@ mod clone_leaves;
 mod entries;
 mod leaves;
 mod nodes;
-mod qualifiers;
 mod same_leaf_name;
 mod same_leaves;
 mod same_names;
