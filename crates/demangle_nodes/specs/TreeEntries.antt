@@ -1,11 +1,6 @@
 -- The trees of types, prefixes, the entries of the table and leaf names.
-use Rattle.std.specs.Prelude.{ℕ, ℤ, pos, Bool}
-use Rattle.std.specs.declared.option.Option.{Option}
-use Rattle.std.specs.declared.option.Option.TheVariants as of_option
-use Rattle.std.specs.declared.vec.Vec.{Vec}
-use Rattle.std.specs.declared.alloc.Global.{Global}
-use Rattle.demangle_core.specs.Core.{Tag, Core, Which, end, node, place, number, flag, chosen, ref, mark, ◌⊕◌, trees, numbers}
-use Rattle.demangle_vocab.specs.declared.qualifier.RefQualifier.{RefQualifier}
+use Rattle.std.specs.Prelude.{pos}
+use Rattle.demangle_core.specs.Core.{Tag, Core, end, node, number, flag, ◌⊕◌}
 use Rattle.demangle_nodes.specs.declared.entries.Decltype.{Decltype}
 use Rattle.demangle_nodes.specs.declared.entries.Decltype.TheVariants as of_decltype
 use Rattle.demangle_nodes.specs.declared.entries.Prefix.{Prefix}
