@@ -1,11 +1,6 @@
--- The trees of types, prefixes and the entries of the table.
-use Rattle.std.specs.Prelude.{ℕ, ℤ, pos, Bool}
-use Rattle.std.specs.declared.option.Option.{Option}
-use Rattle.std.specs.declared.option.Option.TheVariants as of_option
-use Rattle.std.specs.declared.vec.Vec.{Vec}
-use Rattle.std.specs.declared.alloc.Global.{Global}
-use Rattle.demangle_core.specs.Core.{Tag, Core, Which, end, node, place, number, flag, chosen, ref, mark, ◌⊕◌, trees, numbers}
-use Rattle.demangle_vocab.specs.declared.qualifier.RefQualifier.{RefQualifier}
+-- The trees of types, prefixes, the entries of the table and leaf names.
+use Rattle.std.specs.Prelude.{pos}
+use Rattle.demangle_core.specs.Core.{Tag, Core, end, node, number, flag, ◌⊕◌}
 use Rattle.demangle_nodes.specs.declared.entries.Decltype.{Decltype}
 use Rattle.demangle_nodes.specs.declared.entries.Decltype.TheVariants as of_decltype
 use Rattle.demangle_nodes.specs.declared.entries.Prefix.{Prefix}
@@ -25,7 +20,9 @@ use Rattle.demangle_nodes.specs.declared.entries.UnresolvedType.{UnresolvedType}
 use Rattle.demangle_nodes.specs.declared.entries.UnresolvedType.TheVariants as of_unresolved_type
 use Rattle.demangle_nodes.specs.declared.entries.Substitutable.{Substitutable}
 use Rattle.demangle_nodes.specs.declared.entries.Substitutable.TheVariants as of_substitutable
-use Rattle.demangle_nodes.specs.TreeLeaves.{tree_of_option, tree_of_ref_qualifier, tree_of_template_param, tree_of_source_name, tree_of_data_member_prefix, tree_of_cv_qualifiers, tree_of_template_template_param, tree_of_prefix_handle, tree_of_template_template_param_handle, tree_of_type_handle, tree_of_bare_function_type, tree_of_pointer_to_member_type, tree_of_unqualified_name, tree_of_unscoped_template_name}
+use Rattle.demangle_nodes.specs.declared.entries.LeafName.{LeafName}
+use Rattle.demangle_nodes.specs.declared.entries.LeafName.TheVariants as of_leaf_name
+use Rattle.demangle_nodes.specs.TreeLeaves.{tree_of_option, tree_of_ref_qualifier, tree_of_well_known_component, tree_of_unnamed_type_name, tree_of_closure_type_name, tree_of_template_param, tree_of_source_name, tree_of_data_member_prefix, tree_of_cv_qualifiers, tree_of_template_template_param, tree_of_prefix_handle, tree_of_template_template_param_handle, tree_of_type_handle, tree_of_bare_function_type, tree_of_pointer_to_member_type, tree_of_unqualified_name, tree_of_unscoped_template_name}
 use Rattle.demangle_nodes.specs.TreeNodes.{tree_of_name, tree_of_template_args, tree_of_expression}
 
 abbrev pub tag_of_decltype : Decltype → Tag
@@ -185,3 +182,10 @@ parts_of_substitutable (of_substitutable.Expression a) = tree_of_expression a.va
 
 abbrev pub tree_of_substitutable : Substitutable → Core
 tree_of_substitutable x = node (tag_of_substitutable x) (parts_of_substitutable x) end
+
+-- that of what it borrows
+abbrev pub tree_of_leaf_name : LeafName → Core
+tree_of_leaf_name (of_leaf_name.SourceName x) = tree_of_source_name x.now
+tree_of_leaf_name (of_leaf_name.WellKnownComponent x) = tree_of_well_known_component x.now
+tree_of_leaf_name (of_leaf_name.Closure x) = tree_of_closure_type_name x.now
+tree_of_leaf_name (of_leaf_name.UnnamedType x) = tree_of_unnamed_type_name x.now

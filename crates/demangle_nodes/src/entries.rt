@@ -9,14 +9,14 @@ use crate::nodes::{Expression, Name, TemplateArgs};
 use demangle_vocab::{RefQualifier, WellKnownComponent};
 
 /// `decltype` of an expression; `IdExpression` where it names an entity. ABI section 5.1.5.5, `<decltype>`.
-#[derive(Drop)]
+#[derive(Drop, Debug)]
 pub enum Decltype {
     IdExpression(Box<Expression>),
     Expression(Box<Expression>),
 }
 
 /// A scope, or a name with its scope, inside a nested name. ABI section 5.1.2, `<prefix>`.
-#[derive(Drop)]
+#[derive(Drop, Debug)]
 pub enum Prefix {
     Unqualified(UnqualifiedName),
     Nested(PrefixHandle, UnqualifiedName),
@@ -27,7 +27,7 @@ pub enum Prefix {
 }
 
 /// An array: its length, and the type of its elements. ABI section 5.1.5.5, `<array-type>`.
-#[derive(Drop)]
+#[derive(Drop, Debug)]
 pub enum ArrayType {
     DimensionNumber(usize, TypeHandle),
     DimensionExpression(Box<Expression>, TypeHandle),
@@ -35,14 +35,14 @@ pub enum ArrayType {
 }
 
 /// A vector: its length, and the type of its elements. ABI section 5.1.5.1, `Dv`.
-#[derive(Drop)]
+#[derive(Drop, Debug)]
 pub enum VectorType {
     DimensionNumber(usize, TypeHandle),
     DimensionExpression(Box<Expression>, TypeHandle),
 }
 
 /// A class, a union or an enumeration. ABI section 5.1.5.4, `<class-enum-type>`.
-#[derive(Drop)]
+#[derive(Drop, Debug)]
 pub enum ClassEnumType {
     Named(Box<Name>),
     ElaboratedStruct(Box<Name>),
@@ -51,14 +51,14 @@ pub enum ClassEnumType {
 }
 
 /// `noexcept`, alone or of an expression. ABI section 5.1.5.3, `<exception-spec>`.
-#[derive(Drop)]
+#[derive(Drop, Debug)]
 pub enum ExceptionSpec {
     NoExcept,
     Computed(Box<Expression>),
 }
 
 /// The type of a function. ABI section 5.1.5.3, `<function-type>`.
-#[derive(Drop)]
+#[derive(Drop, Debug)]
 pub struct FunctionType {
     pub cv_qualifiers: CvQualifiers,
     pub exception_spec: Option<ExceptionSpec>,
@@ -69,7 +69,7 @@ pub struct FunctionType {
 }
 
 /// A type that takes an entry of the table. ABI section 5.1.5, `<type>`.
-#[derive(Drop)]
+#[derive(Drop, Debug)]
 pub enum TypeNode {
     Function(FunctionType),
     ClassEnum(ClassEnumType),
@@ -90,7 +90,7 @@ pub enum TypeNode {
 }
 
 /// A type that is known by a template parameter or a `decltype` alone. ABI section 5.1.6, `<unresolved-type>`.
-#[derive(Drop)]
+#[derive(Drop, Debug)]
 pub enum UnresolvedType {
     Template(TemplateParam, Option<TemplateArgs>),
     Decltype(Decltype),
@@ -98,7 +98,7 @@ pub enum UnresolvedType {
 
 /// An entry of the substitution table. An `Expression` stands in the second list alone: it is the width of a `_BitInt`
 /// type.
-#[derive(Drop)]
+#[derive(Drop, Debug)]
 pub enum Substitutable {
     UnscopedTemplateName(UnscopedTemplateName),
     TypeNode(TypeNode),
@@ -109,7 +109,7 @@ pub enum Substitutable {
 }
 
 /// The last identifier of a name, which a constructor, a destructor or a member function takes over from its class.
-#[derive(Clone, Copy)]
+#[derive(Clone, Copy, Debug)]
 pub enum LeafName<'a> {
     SourceName(&'a SourceName),
     WellKnownComponent(&'a WellKnownComponent),

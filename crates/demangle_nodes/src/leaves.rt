@@ -3,6 +3,8 @@
 //!
 //! A place is the index of its first byte and the index behind its last byte, both in the input that was read.
 
+ghost use Rattle.std.specs.Prelude.{◌≡◌, false};
+
 use demangle_vocab::{
     ExplicitObjectParameter, RefQualifier, SimpleOperatorName, StandardBuiltinType,
     WellKnownComponent,
@@ -69,11 +71,24 @@ pub struct DataMemberPrefix(pub SourceName);
 pub struct CloneSuffix(pub CloneTypeIdentifier, pub Vec<isize>);
 
 /// `restrict`, `volatile` and `const`. ABI section 5.1.5.1, `<CV-qualifiers>`.
-#[derive(Clone, Copy, Debug, Default)]
+#[derive(Clone, Copy, Debug, Hash)]
 pub struct CvQualifiers {
     pub restrict: bool,
     pub volatile: bool,
     pub const_: bool,
+}
+
+impl Default for CvQualifiers {
+    /// No qualifier.
+    fn default() -> CvQualifiers
+        ensures { result ≡ record { restrict = false; volatile = false; const_ = false } }
+    {
+        CvQualifiers {
+            restrict: false,
+            volatile: false,
+            const_: false,
+        }
+    }
 }
 
 /// A fixed offset of a thunk. ABI section 5.1.4.2, `<nv-offset>`.

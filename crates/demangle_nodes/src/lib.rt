@@ -6,6 +6,7 @@ mod clone_leaves;
 mod entries;
 mod leaves;
 mod nodes;
+mod same_leaf_name;
 mod same_leaves;
 mod same_names;
 

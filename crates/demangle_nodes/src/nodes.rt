@@ -12,7 +12,7 @@ use demangle_vocab::SimpleOperatorName;
 
 /// A whole mangled name. ABI section 5.1.2, `<mangled-name>`.
 #[cycle(nodes)]
-#[derive(Drop)]
+#[derive(Drop, Debug)]
 pub enum MangledName {
     Encoding(Encoding, Vec<CloneSuffix>),
     BlockInvoke(Encoding, Option<isize>),
@@ -22,7 +22,7 @@ pub enum MangledName {
 
 /// A function, a variable or something that the compiler makes. ABI section 5.1.2, `<encoding>`.
 #[cycle(nodes)]
-#[derive(Drop)]
+#[derive(Drop, Debug)]
 pub enum Encoding {
     Function(Name, BareFunctionType),
     Data(Name),
@@ -31,7 +31,7 @@ pub enum Encoding {
 
 /// What runs the constructors or destructors of a file's variables.
 #[cycle(nodes)]
-#[derive(Drop)]
+#[derive(Drop, Debug)]
 pub enum GlobalCtorDtor {
     Ctor(Box<MangledName>),
     Dtor(Box<MangledName>),
@@ -39,7 +39,7 @@ pub enum GlobalCtorDtor {
 
 /// A name with its scope. ABI section 5.1.2, `<name>`.
 #[cycle(nodes)]
-#[derive(Drop)]
+#[derive(Drop, Debug)]
 pub enum Name {
     Nested(NestedName),
     Unscoped(UnscopedName),
@@ -50,12 +50,12 @@ pub enum Name {
 /// The arguments of a template, and its `place`: the index of the `I` before them, which equality leaves out. ABI
 /// section 5.1.5.8, `<template-args>`.
 #[cycle(nodes)]
-#[derive(Drop)]
+#[derive(Drop, Debug)]
 pub struct TemplateArgs(pub Vec<TemplateArg>, pub usize);
 
 /// One argument of a template. ABI section 5.1.5.8, `<template-arg>`.
 #[cycle(nodes)]
-#[derive(Drop)]
+#[derive(Drop, Debug)]
 pub enum TemplateArg {
     TypeArg(TypeHandle),
     Expression(Expression),
@@ -65,17 +65,17 @@ pub enum TemplateArg {
 
 /// The name of a member in a member access.
 #[cycle(nodes)]
-#[derive(Drop)]
+#[derive(Drop, Debug)]
 pub struct MemberName(pub Box<Name>);
 
 /// The arguments in parentheses behind a `new` expression. ABI section 5.1.6, `<initializer>`.
 #[cycle(nodes)]
-#[derive(Drop)]
+#[derive(Drop, Debug)]
 pub struct Initializer(pub Vec<Expression>);
 
 /// An expression. ABI section 5.1.6, `<expression>`.
 #[cycle(nodes)]
-#[derive(Drop)]
+#[derive(Drop, Debug)]
 pub enum Expression {
     Unary(OperatorName, Box<Expression>),
     Binary(OperatorName, Box<Expression>, Box<Expression>),
@@ -125,7 +125,7 @@ pub enum Expression {
 
 /// A name in an expression whose meaning depends on template arguments. ABI section 5.1.6, `<unresolved-name>`.
 #[cycle(nodes)]
-#[derive(Drop)]
+#[derive(Drop, Debug)]
 pub enum UnresolvedName {
     Name(BaseUnresolvedName),
     Global(BaseUnresolvedName),
@@ -136,17 +136,17 @@ pub enum UnresolvedName {
 
 /// One scope of an unresolved name. ABI section 5.1.6, `<unresolved-qualifier-level>`.
 #[cycle(nodes)]
-#[derive(Drop)]
+#[derive(Drop, Debug)]
 pub struct UnresolvedQualifierLevel(pub SimpleId);
 
 /// An identifier with its template arguments. ABI section 5.1.6, `<simple-id>`.
 #[cycle(nodes)]
-#[derive(Drop)]
+#[derive(Drop, Debug)]
 pub struct SimpleId(pub SourceName, pub Option<TemplateArgs>);
 
 /// An unresolved name without its scopes. ABI section 5.1.6, `<base-unresolved-name>`.
 #[cycle(nodes)]
-#[derive(Drop)]
+#[derive(Drop, Debug)]
 pub enum BaseUnresolvedName {
     Name(SimpleId),
     Operator(OperatorName, Option<TemplateArgs>),
@@ -155,7 +155,7 @@ pub enum BaseUnresolvedName {
 
 /// The type behind the `~` of a destructor in an expression. ABI section 5.1.6, `<destructor-name>`.
 #[cycle(nodes)]
-#[derive(Drop)]
+#[derive(Drop, Debug)]
 pub enum DestructorName {
     Unresolved(UnresolvedTypeHandle),
     Name(SimpleId),
@@ -163,7 +163,7 @@ pub enum DestructorName {
 
 /// A literal, with the place of its value, or the name of an entity. ABI section 5.1.6, `<expr-primary>`.
 #[cycle(nodes)]
-#[derive(Drop)]
+#[derive(Drop, Debug)]
 pub enum ExprPrimary {
     Literal(TypeHandle, usize, usize),
     External(Box<MangledName>),
@@ -171,7 +171,7 @@ pub enum ExprPrimary {
 
 /// An entity inside a function, or a string literal of it, where there is no name. ABI section 5.1.6, `<local-name>`.
 #[cycle(nodes)]
-#[derive(Drop)]
+#[derive(Drop, Debug)]
 pub enum LocalName {
     Relative(Box<Encoding>, Option<Box<Name>>, Option<Discriminator>),
     Default(Box<Encoding>, Option<isize>, Box<Name>),
@@ -179,7 +179,7 @@ pub enum LocalName {
 
 /// What the compiler makes beside functions and variables. ABI section 5.1.4, `<special-name>`.
 #[cycle(nodes)]
-#[derive(Drop)]
+#[derive(Drop, Debug)]
 pub enum SpecialName {
     VirtualTable(TypeHandle),
     Vtt(TypeHandle),
@@ -200,7 +200,7 @@ pub enum SpecialName {
 
 /// A part of an object as a template argument: its type, the object, and the offset. ABI section 5.1.6, `so`.
 #[cycle(nodes)]
-#[derive(Drop)]
+#[derive(Drop, Debug)]
 pub struct SubobjectExpr {
     pub ty: TypeHandle,
     pub expr: Box<Expression>,
@@ -209,7 +209,7 @@ pub struct SubobjectExpr {
 
 /// A fold over a parameter pack. ABI section 5.1.6, `fl`, `fr`, `fL` and `fR`.
 #[cycle(nodes)]
-#[derive(Drop)]
+#[derive(Drop, Debug)]
 pub enum FoldExpr {
     UnaryLeft(SimpleOperatorName, Box<Expression>),
     UnaryRight(SimpleOperatorName, Box<Expression>),

@@ -16,7 +16,8 @@ pub(crate) enum LeafStep<'a> {
 }
 
 impl<'a> LeafStep<'a> {
-    ghost use Rattle.demangle_tree.specs.LookupsOf.{next_of, tree_of_leaf_name};
+    ghost use Rattle.demangle_tree.specs.LookupsOf.{next_of};
+    ghost use Rattle.demangle_nodes.specs.TreeEntries.{tree_of_leaf_name};
 
     pub(crate) fn refers(&self) -> bool
         ensures { result ≡ refers (next_of self.now) }
