@@ -42,7 +42,7 @@ numbers_differ [] (y ∷ ys) not_same = refl
 numbers_differ (x ∷ xs) [] not_same = refl
 numbers_differ (x ∷ xs) (y ∷ ys) not_same = ap (λ b. int_eq x y && b) (numbers_differ xs ys (λ e. not_same (ap suc e))) ∙ and_false (int_eq x y)
 
-naturals : (a b : ℕ) → int_eq (pos a) (pos b) ≡ nat_eq a b
+pub naturals : (a b : ℕ) → int_eq (pos a) (pos b) ≡ nat_eq a b
 naturals a b = search rules
 
 -- ---- what `==` of std answers at an optional field and at a list
@@ -71,3 +71,7 @@ list_of_numbers (x ∷ xs) [] = refl
 list_of_numbers (x ∷ xs) (y ∷ ys) = ap (λ b. int_eq x y && b) (list_of_numbers xs ys)
 
 pub ruleset rows = (and_true, option_of_trees, option_of_numbers, list_of_trees, list_of_numbers)
+
+-- The last of three fields, where the two before it are the same.
+pub last_of_three : {first second third answer : Bool} → answer ≡ third → true ≡ first → true ≡ second → answer ≡ (first && (second && third))
+last_of_three {third} of_third of_first of_second = of_third ∙ (λ i. of_first i && (of_second i && third))

@@ -6,9 +6,12 @@ mod clone_leaves;
 mod entries;
 mod leaves;
 mod nodes;
+mod same_entries;
 mod same_leaf_name;
 mod same_leaves;
 mod same_names;
+mod same_nodes;
+mod same_parts;
 
 pub use entries::{
     ArrayType, ClassEnumType, Decltype, ExceptionSpec, FunctionType, LeafName, Prefix,
