@@ -2,12 +2,15 @@
 #![tactic(auto)]
 
 mod accessors;
+mod clone_entries;
 mod clone_leaves;
+mod clone_nodes;
 mod entries;
 mod leaves;
 mod nodes;
 mod same_leaves;
 mod same_names;
+mod try_clone_nodes;
 
 pub use entries::{
     ArrayType, ClassEnumType, Decltype, ExceptionSpec, FunctionType, LeafName, Prefix,
