@@ -1,0 +1,10 @@
+//! The substitution table and the look-ups through it at worked examples: each call with ample memory, and a long chain of
+//! components.
+#![tactic(auto)]
+
+#[cfg(test)]
+mod lookups;
+#[cfg(test)]
+mod samples;
+#[cfg(test)]
+mod table;

@@ -1,0 +1,105 @@
+//! Nodes that the tests are made of. They promise nothing, so a test knows of them what it finds when it runs.
+
+use demangle_tree::{
+    AbiTags, BuiltinType, CtorDtorName, CvQualifiers, Identifier, LeafName, OperatorName, Prefix,
+    PrefixHandle, SourceName, Substitutable, SubstitutionTable, TemplateArgs, TypeHandle, TypeNode,
+    UnqualifiedName,
+};
+use demangle_vocab::{SimpleOperatorName, StandardBuiltinType};
+use std::alloc::Global;
+
+pub fn int() -> TypeHandle {
+    TypeHandle::Builtin(BuiltinType::Standard(StandardBuiltinType::Int))
+}
+
+pub fn pointer_to_int() -> Substitutable {
+    Substitutable::TypeNode(TypeNode::PointerTo(int()))
+}
+
+pub fn is_type_pointer_to_int(node: &TypeNode) -> bool {
+    match node {
+        TypeNode::PointerTo(pointee) => *pointee == int(),
+        _ => false,
+    }
+}
+
+pub fn is_pointer_to_int(entry: &Substitutable) -> bool {
+    match entry {
+        Substitutable::TypeNode(node) => is_type_pointer_to_int(node),
+        _ => false,
+    }
+}
+
+/// The identifier from 0 to 1, with no tags.
+pub fn class_name(alloc: Global) -> UnqualifiedName {
+    UnqualifiedName::Source(
+        SourceName(Identifier { start: 0, end: 1 }),
+        AbiTags(Vec::new(alloc)),
+    )
+}
+
+pub fn class(alloc: Global) -> Substitutable {
+    Substitutable::Prefix(Prefix::Unqualified(class_name(alloc)))
+}
+
+/// Whether this is the identifier of `class_name`.
+pub fn is_class(leaf: Option<LeafName<'_>>) -> bool {
+    match leaf {
+        Some(LeafName::SourceName(name)) => *name == SourceName(Identifier { start: 0, end: 1 }),
+        _ => false,
+    }
+}
+
+/// A table whose entry 0 is `class`.
+pub fn table_of_class(alloc: Global) -> Option<SubstitutionTable> {
+    let mut subs = SubstitutionTable::new(alloc);
+    match subs.insert(class(alloc)) {
+        Ok(_) => Some(subs),
+        Err(_) => None,
+    }
+}
+
+pub fn constructor(alloc: Global) -> UnqualifiedName {
+    UnqualifiedName::CtorDtor(
+        CtorDtorName::CompleteConstructor(None),
+        AbiTags(Vec::new(alloc)),
+    )
+}
+
+pub fn destructor(alloc: Global) -> UnqualifiedName {
+    UnqualifiedName::CtorDtor(CtorDtorName::CompleteDestructor, AbiTags(Vec::new(alloc)))
+}
+
+pub fn conversion_to_int(alloc: Global) -> UnqualifiedName {
+    UnqualifiedName::Operator(OperatorName::Conversion(int()), AbiTags(Vec::new(alloc)))
+}
+
+pub fn operator_new(alloc: Global) -> UnqualifiedName {
+    UnqualifiedName::Operator(
+        OperatorName::Simple(SimpleOperatorName::New),
+        AbiTags(Vec::new(alloc)),
+    )
+}
+
+/// The template arguments of place 7, none of them, under the name of entry 0.
+pub fn template_of_class(alloc: Global) -> Substitutable {
+    Substitutable::Prefix(Prefix::Template(
+        PrefixHandle::BackReference(0),
+        TemplateArgs(Vec::new(alloc), 7),
+    ))
+}
+
+pub fn place(args: Option<&TemplateArgs>) -> Option<usize> {
+    match args {
+        Some(args) => Some(args.1),
+        None => None,
+    }
+}
+
+pub fn no_qualifiers() -> CvQualifiers {
+    CvQualifiers {
+        restrict: false,
+        volatile: false,
+        const_: false,
+    }
+}

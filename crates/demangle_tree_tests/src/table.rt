@@ -1,0 +1,145 @@
+//! The table's calls.
+
+use crate::samples::{class, int, is_pointer_to_int, is_type_pointer_to_int, pointer_to_int};
+use demangle_tree::{Substitutable, SubstitutionTable, TypeHandle, insert_and_cut_back};
+
+fn count_pointers(subs: &SubstitutionTable) -> usize {
+    let mut count: usize = 0;
+    for entry in subs.iter() {
+        if is_pointer_to_int(entry) {
+            count = count.wrapping_add(1);
+        }
+    }
+    count
+}
+
+fn is_some_pointer(entry: Option<&Substitutable>) -> bool {
+    match entry {
+        Some(entry) => is_pointer_to_int(entry),
+        None => false,
+    }
+}
+
+fn finds_pointer(subs: &SubstitutionTable, handle: &TypeHandle) -> bool {
+    match subs.get_type(handle) {
+        Some(node) => is_type_pointer_to_int(node),
+        None => false,
+    }
+}
+
+// Two numbered components, a class and a pointer.
+fn two_entries(rt: &HostRuntime) -> Option<SubstitutionTable> {
+    let alloc = rt.alloc();
+    let mut subs = SubstitutionTable::new(alloc);
+    if subs.insert(class(alloc)).is_err() || subs.insert(pointer_to_int()).is_err() {
+        return None;
+    }
+    Some(subs)
+}
+
+// One component in each list.
+fn one_each(rt: &HostRuntime) -> Option<SubstitutionTable> {
+    let mut subs = SubstitutionTable::new(rt.alloc());
+    if subs.insert(pointer_to_int()).is_err()
+        || subs.insert_non_substitution(pointer_to_int()).is_err()
+    {
+        return None;
+    }
+    Some(subs)
+}
+
+#[test]
+fn a_new_table_is_empty(rt: HostRuntime) {
+    let subs = SubstitutionTable::new(rt.alloc());
+    assert!(rt; subs.len() == 0);
+    assert!(rt; !subs.contains(0));
+    assert!(rt; subs.get(0).is_none());
+    assert!(rt; subs.lengths() == (0, 0));
+}
+
+#[test]
+fn the_first_component_is_number_0(rt: HostRuntime) {
+    let mut subs = SubstitutionTable::new(rt.alloc());
+    assert!(rt; matches!(subs.insert(pointer_to_int()), Ok(0)));
+    assert!(rt; subs.contains(0));
+    assert!(rt; !subs.contains(1));
+    assert!(rt; subs.len() == 1);
+    assert!(rt; is_some_pointer(subs.get(0)));
+}
+
+#[test]
+fn the_second_component_is_number_1(rt: HostRuntime) {
+    let alloc = rt.alloc();
+    let mut subs = SubstitutionTable::new(alloc);
+    assert!(rt; matches!(subs.insert(class(alloc)), Ok(0)));
+    assert!(rt; matches!(subs.insert(pointer_to_int()), Ok(1)));
+    assert!(rt; !is_some_pointer(subs.get(0)));
+    assert!(rt; is_some_pointer(subs.get(1)));
+}
+
+#[test]
+fn a_handle_finds_its_type(rt: HostRuntime) {
+    let subs = two_entries(&rt).expect(&rt, "memory");
+    let cases = [
+        (TypeHandle::BackReference(0), false),
+        (TypeHandle::BackReference(1), true),
+        (TypeHandle::BackReference(2), false),
+        (int(), false),
+    ];
+    for (handle, wanted) in cases {
+        assert!(rt; finds_pointer(&subs, &handle) == wanted);
+    }
+}
+
+#[test]
+fn the_others_have_positions_of_their_own(rt: HostRuntime) {
+    let mut subs = SubstitutionTable::new(rt.alloc());
+    assert!(rt; matches!(subs.insert(pointer_to_int()), Ok(0)));
+    assert!(rt; matches!(subs.insert_non_substitution(pointer_to_int()), Ok(0)));
+    assert!(rt; subs.lengths() == (1, 1));
+    assert!(rt; is_some_pointer(subs.get_non_substitution(0)));
+}
+
+#[test]
+fn cutting_takes_out_the_others(rt: HostRuntime) {
+    let mut subs = one_each(&rt).expect(&rt, "memory");
+    subs.cut_back((1, 0));
+    assert!(rt; subs.get_non_substitution(0).is_none());
+    assert!(rt; subs.lengths() == (1, 0));
+}
+
+#[test]
+fn cutting_takes_out_numbered_ones(rt: HostRuntime) {
+    let mut subs = one_each(&rt).expect(&rt, "memory");
+    subs.cut_back((0, 1));
+    assert!(rt; subs.get(0).is_none());
+    assert!(rt; is_some_pointer(subs.get_non_substitution(0)));
+    assert!(rt; subs.lengths() == (0, 1));
+}
+
+#[test]
+fn what_is_inserted_can_be_cut(rt: HostRuntime) {
+    let mut subs = one_each(&rt).expect(&rt, "memory");
+    insert_and_cut_back(&mut subs, pointer_to_int(), pointer_to_int());
+    assert!(rt; subs.lengths() == (1, 1));
+}
+
+#[test]
+fn the_last_comes_out(rt: HostRuntime) {
+    let mut subs = two_entries(&rt).expect(&rt, "memory");
+    let last = subs.pop();
+    assert!(rt; is_some_pointer(last.as_ref()));
+    assert!(rt; subs.len() == 1);
+    assert!(rt; subs.pop().is_some());
+    assert!(rt; subs.pop().is_none());
+}
+
+#[test]
+fn a_list_is_the_numbered_components(rt: HostRuntime) {
+    let alloc = rt.alloc();
+    let mut list = Vec::new(alloc);
+    assert!(rt; list.push(pointer_to_int()).is_ok());
+    let subs = SubstitutionTable::from_list(alloc, list);
+    assert!(rt; subs.len() == 1);
+    assert!(rt; count_pointers(&subs) == 1);
+}
