@@ -693,12 +693,14 @@ fn same_optional_isize(x: &Option<isize>, y: &Option<isize>) -> bool
     }
 }
 
+/// `==` of an offset as a call, whose promise the proof of a longer test can cite.
 fn same_isize(x: &isize, y: &isize) -> bool
     ensures { result ≡ int_eq x.now y.now }
 {
     *x == *y
 }
 
+/// The same of an index or a length.
 #[tactic(auto, using(crate::proofs::Same::naturals))]
 fn same_usize(x: &usize, y: &usize) -> bool
     ensures { result ≡ int_eq (pos x.now) (pos y.now) }
@@ -706,16 +708,14 @@ fn same_usize(x: &usize, y: &usize) -> bool
     *x == *y
 }
 
-#[tactic(auto, using(crate::proofs::Same::rows))]
-fn same_clone_suffixes(xs: &Vec<CloneSuffix>, ys: &Vec<CloneSuffix>) -> bool
-    ensures { result ≡ same (trees tag_of_clone_suffix parts_of_clone_suffix xs.now.items) (trees tag_of_clone_suffix parts_of_clone_suffix ys.now.items) }
+fn same_clone_suffixes(xs: &[CloneSuffix], ys: &[CloneSuffix]) -> bool
+    ensures { result ≡ same (trees tag_of_clone_suffix parts_of_clone_suffix xs.now) (trees tag_of_clone_suffix parts_of_clone_suffix ys.now) }
 {
     xs == ys
 }
 
-#[tactic(auto, using(crate::proofs::Same::rows))]
-fn same_resource_names(xs: &Vec<ResourceName>, ys: &Vec<ResourceName>) -> bool
-    ensures { result ≡ same (trees tag_of_resource_name parts_of_resource_name xs.now.items) (trees tag_of_resource_name parts_of_resource_name ys.now.items) }
+fn same_resource_names(xs: &[ResourceName], ys: &[ResourceName]) -> bool
+    ensures { result ≡ same (trees tag_of_resource_name parts_of_resource_name xs.now) (trees tag_of_resource_name parts_of_resource_name ys.now) }
 {
     xs == ys
 }
