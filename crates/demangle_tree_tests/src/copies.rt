@@ -157,9 +157,16 @@ fn copies_of_expressions(rt: HostRuntime) -> core::result::Result<(), Fail> {
     let alloc = rt.alloc();
     let sum = sum(alloc)?;
     assert!(rt; is_copy(sum.try_clone(alloc), &sum));
-    let part = SubobjectExpr { ty: handle(), expr: Box::new(alloc, sum)?, offset: -8 };
+    let part = SubobjectExpr {
+        ty: handle(),
+        expr: Box::new(alloc, sum)?,
+        offset: -8,
+    };
     assert!(rt; is_copy(part.try_clone(alloc), &part));
-    let fold = FoldExpr::UnaryLeft(SimpleOperatorName::Add, Box::new(alloc, Expression::Rethrow)?);
+    let fold = FoldExpr::UnaryLeft(
+        SimpleOperatorName::Add,
+        Box::new(alloc, Expression::Rethrow)?,
+    );
     assert!(rt; is_copy(fold.try_clone(alloc), &fold));
     let mut list = Vec::new(alloc);
     list.push(Expression::Rethrow)?;
@@ -169,7 +176,9 @@ fn copies_of_expressions(rt: HostRuntime) -> core::result::Result<(), Fail> {
 }
 
 #[test]
-fn a_copy_keeps_the_place_that_equality_leaves_out(rt: HostRuntime) -> core::result::Result<(), Fail> {
+fn a_copy_keeps_the_place_that_equality_leaves_out(
+    rt: HostRuntime,
+) -> core::result::Result<(), Fail> {
     let alloc = rt.alloc();
     let arguments = arguments(alloc)?;
     let copy = arguments.try_clone(alloc)?;

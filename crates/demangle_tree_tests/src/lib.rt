@@ -10,3 +10,5 @@ mod lookups;
 mod samples;
 #[cfg(test)]
 mod table;
+#[cfg(test)]
+mod texts;
