@@ -1,4 +1,4 @@
-//! Copies of the node types of `nodes`. A copy has the same tag and parts; want of memory alone refuses it.
+//! The recursion behind the copies of `nodes`: a copy has the same tag and parts; want of memory alone refuses it.
 
 ghost use Rattle.std.specs.Prelude.{◌≡◌, IfOk, IfErr};
 ghost use Rattle.demangle_core.specs.Core.{trees};

@@ -1,4 +1,4 @@
-//! Copies of the types that hold each other. A copy has the same tree; want of memory alone refuses it.
+//! Copies of the types of `nodes`, which hold each other. A copy has the same tree; want of memory alone refuses it.
 
 ghost use Rattle.std.specs.Prelude.{◌≡◌, IfOk, IfErr};
 ghost use Rattle.demangle_text.specs.declared.error.Error.TheVariants.{OutOfMemory};

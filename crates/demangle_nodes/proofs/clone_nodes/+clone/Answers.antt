@@ -1,6 +1,5 @@
 use Rattle.std.proofs.Common.{rules}
 use Rattle.std.proofs.lemmas.List.{take_more}
-use Rattle.demangle_core.specs.Core.{end, node}
 use Rattle.demangle_nodes.specs.TreeNodes.{parts_of_expression, parts_of_template_arg, parts_of_unresolved_qualifier_level, tag_of_expression, tag_of_template_arg, tag_of_unresolved_qualifier_level}
 use Rattle.demangle_nodes.proofs.Copies.{one_more}
 use Rattle.demangle_nodes.proofs.clone_nodes.+clone.Goals as goal
