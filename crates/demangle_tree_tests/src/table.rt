@@ -27,6 +27,12 @@ fn finds_pointer(subs: &SubstitutionTable, handle: &TypeHandle) -> bool {
     }
 }
 
+// The component at a position of the second list, where there is one.
+#[tactic(auto, unfolding(demangle_core::specs::Table::size, demangle_core::specs::Table::sizes))]
+fn is_other_pointer(subs: &SubstitutionTable, idx: usize) -> bool {
+    idx < subs.lengths().1 && is_pointer_to_int(subs.non_substitution(idx))
+}
+
 // Two numbered components, a class and a pointer.
 fn two_entries(rt: &HostRuntime) -> Option<SubstitutionTable> {
     let alloc = rt.alloc();
@@ -98,6 +104,7 @@ fn the_others_have_positions_of_their_own(rt: HostRuntime) {
     assert!(rt; matches!(subs.insert_non_substitution(pointer_to_int()), Ok(0)));
     assert!(rt; subs.lengths() == (1, 1));
     assert!(rt; is_some_pointer(subs.get_non_substitution(0)));
+    assert!(rt; is_other_pointer(&subs, 0));
 }
 
 #[test]
