@@ -15,7 +15,12 @@ ghost use Rattle.demangle_nodes.specs.TreeEntries.{tree_of_leaf_name, tree_of_pr
 
 use crate::steps::LeafStep;
 use crate::table::SubstitutionTable;
-use demangle_nodes::{BuiltinType, ClassEnumType, ClosureTypeName, DataMemberPrefix, LeafName, LocalName, Name, NestedName, NonSubstitution, Prefix, PrefixHandle, QualifiedBuiltin, Substitutable, TemplateTemplateParamHandle, TypeHandle, TypeNode, UnqualifiedName, UnresolvedTypeHandle, UnscopedName, UnscopedTemplateName, UnscopedTemplateNameHandle};
+use demangle_nodes::{
+    BuiltinType, ClassEnumType, ClosureTypeName, DataMemberPrefix, LeafName, LocalName, Name,
+    NestedName, NonSubstitution, Prefix, PrefixHandle, QualifiedBuiltin, Substitutable,
+    TemplateTemplateParamHandle, TypeHandle, TypeNode, UnqualifiedName, UnresolvedTypeHandle,
+    UnscopedName, UnscopedTemplateName, UnscopedTemplateNameHandle,
+};
 use demangle_vocab::WellKnownComponent;
 
 fn leaf_of_well_known_component<'a>(node: &'a WellKnownComponent) -> LeafStep<'a>

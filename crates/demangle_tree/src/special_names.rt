@@ -12,7 +12,10 @@ ghost use Rattle.demangle_nodes.specs.TreeEntries.{tree_of_prefix, tree_of_subst
 
 use crate::steps::SpecialStep;
 use crate::table::SubstitutionTable;
-use demangle_nodes::{Name, NestedName, OperatorName, Prefix, PrefixHandle, Substitutable, UnqualifiedName, UnscopedName};
+use demangle_nodes::{
+    Name, NestedName, OperatorName, Prefix, PrefixHandle, Substitutable, UnqualifiedName,
+    UnscopedName,
+};
 
 fn special_of_prefix_handle(node: &PrefixHandle) -> SpecialStep
     ensures { special_next result ≡ special_step (tree_of_prefix_handle node.now) }

@@ -197,7 +197,11 @@ impl SubstitutionTable {
         let non_substitutions = copied(alloc, &self.non_substitutions)?;
         let mut kept = Vec::new(alloc);
         kept.extend_from_slice(&self.kept)?;
-        Ok(SubstitutionTable { substitutions, non_substitutions, kept })
+        Ok(SubstitutionTable {
+            substitutions,
+            non_substitutions,
+            kept,
+        })
     }
 
     /// Cuts both lists to these lengths: what was inserted after them is gone.

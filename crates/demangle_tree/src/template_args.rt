@@ -12,7 +12,10 @@ ghost use Rattle.demangle_nodes.specs.TreeEntries.{tree_of_prefix, tree_of_subst
 
 use crate::steps::ArgsStep;
 use crate::table::SubstitutionTable;
-use demangle_nodes::{LocalName, Name, NestedName, Prefix, PrefixHandle, Substitutable, TemplateArgs, TypeHandle, TypeNode};
+use demangle_nodes::{
+    LocalName, Name, NestedName, Prefix, PrefixHandle, Substitutable, TemplateArgs, TypeHandle,
+    TypeNode,
+};
 
 fn args_of_prefix_handle<'a>(node: &'a PrefixHandle) -> ArgsStep<'a>
     ensures { args_next result ≡ args_step (tree_of_prefix_handle node.now) }
