@@ -2,9 +2,7 @@
 #![tactic(auto)]
 
 mod accessors;
-mod clone_entries;
 mod clone_leaves;
-mod clone_nodes;
 mod entries;
 mod leaves;
 mod nodes;
@@ -14,7 +12,6 @@ mod same_leaves;
 mod same_names;
 mod same_nodes;
 mod same_parts;
-mod try_clone_nodes;
 
 pub use entries::{
     ArrayType, ClassEnumType, Decltype, ExceptionSpec, FunctionType, LeafName, Prefix,
