@@ -3,7 +3,7 @@
 #![tactic(auto)]
 
 #[cfg(test)]
-mod copies;
+mod equality;
 #[cfg(test)]
 mod lookups;
 #[cfg(test)]
