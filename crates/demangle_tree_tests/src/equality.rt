@@ -88,7 +88,7 @@ fn simple_id(alloc: Global) -> Result<SimpleId> {
 }
 
 #[test]
-fn copies_of_leaves(rt: HostRuntime) -> core::result::Result<(), Fail> {
+fn copies_of_leaves(rt: HostRuntime) -> std::result::Result<(), Fail> {
     let alloc = rt.alloc();
     let tags = tags(alloc)?;
     assert!(rt; is_copy(tags.try_clone(alloc), &tags));
@@ -104,7 +104,7 @@ fn copies_of_leaves(rt: HostRuntime) -> core::result::Result<(), Fail> {
 }
 
 #[test]
-fn copies_of_small_names(rt: HostRuntime) -> core::result::Result<(), Fail> {
+fn copies_of_small_names(rt: HostRuntime) -> std::result::Result<(), Fail> {
     let alloc = rt.alloc();
     let plain = unqualified(alloc)?;
     assert!(rt; is_copy(plain.try_clone(alloc), &plain));
@@ -123,7 +123,7 @@ fn copies_of_small_names(rt: HostRuntime) -> core::result::Result<(), Fail> {
 }
 
 #[test]
-fn names_built_apart_are_equal(rt: HostRuntime) -> core::result::Result<(), Fail> {
+fn names_built_apart_are_equal(rt: HostRuntime) -> std::result::Result<(), Fail> {
     let alloc = rt.alloc();
     let whole = mangled(alloc)?;
     assert!(rt; whole == mangled(alloc)?);
@@ -141,7 +141,7 @@ fn names_built_apart_are_equal(rt: HostRuntime) -> core::result::Result<(), Fail
 }
 
 #[test]
-fn equality_leaves_the_place_out(rt: HostRuntime) -> core::result::Result<(), Fail> {
+fn equality_leaves_the_place_out(rt: HostRuntime) -> std::result::Result<(), Fail> {
     let alloc = rt.alloc();
     let here = arguments(alloc)?;
     let there = TemplateArgs(arguments(alloc)?.0, 9);
@@ -152,7 +152,7 @@ fn equality_leaves_the_place_out(rt: HostRuntime) -> core::result::Result<(), Fa
 }
 
 #[test]
-fn expressions_built_apart_are_equal(rt: HostRuntime) -> core::result::Result<(), Fail> {
+fn expressions_built_apart_are_equal(rt: HostRuntime) -> std::result::Result<(), Fail> {
     let alloc = rt.alloc();
     assert!(rt; sum(alloc)? == sum(alloc)?);
     assert!(rt; sum(alloc)? != Expression::Rethrow);
@@ -162,7 +162,7 @@ fn expressions_built_apart_are_equal(rt: HostRuntime) -> core::result::Result<()
 }
 
 #[test]
-fn entries_built_apart_are_equal(rt: HostRuntime) -> core::result::Result<(), Fail> {
+fn entries_built_apart_are_equal(rt: HostRuntime) -> std::result::Result<(), Fail> {
     let alloc = rt.alloc();
     let array = ArrayType::DimensionExpression(Box::new(alloc, sum(alloc)?)?, handle());
     assert!(rt; array == ArrayType::DimensionExpression(Box::new(alloc, sum(alloc)?)?, handle()));
@@ -176,7 +176,7 @@ fn entries_built_apart_are_equal(rt: HostRuntime) -> core::result::Result<(), Fa
 }
 
 #[test]
-fn tables_are_equal_by_both_lists(rt: HostRuntime) -> core::result::Result<(), Fail> {
+fn tables_are_equal_by_both_lists(rt: HostRuntime) -> std::result::Result<(), Fail> {
     let alloc = rt.alloc();
     let mut table = SubstitutionTable::new(alloc);
     let mut other = SubstitutionTable::new(alloc);
