@@ -1,8 +1,11 @@
 //! Copies of the node types of `leaves` that own memory. A copy has the same tree; want of memory alone refuses it.
 
 ghost use Rattle.std.specs.Prelude.{◌≡◌, IfOk, IfErr};
+ghost use Rattle.demangle_core.specs.Core.{trees};
 ghost use Rattle.demangle_text.specs.declared.error.Error.TheVariants.{OutOfMemory};
 ghost use Rattle.demangle_nodes.specs.TreeLeaves.{
+  parts_of_clone_suffix,
+  tag_of_clone_suffix,
   tree_of_abi_tags,
   tree_of_bare_function_type,
   tree_of_clone_suffix,
@@ -21,7 +24,7 @@ use crate::leaves::{
 use demangle_text::Result;
 use std::alloc::Global;
 
-fn copied<T: Copy + Drop>(alloc: Global, items: &[T]) -> Result<Vec<T>>
+pub(crate) fn copied<T: Copy + Drop>(alloc: Global, items: &[T]) -> Result<Vec<T>>
     ensures copied { IfOk result (λ r. r.items ≡ items.now) }
     ensures refused { IfErr result (λ e. e ≡ OutOfMemory) }
 {
@@ -50,6 +53,17 @@ impl CloneSuffix {
     {
         Ok(CloneSuffix(self.0, copied(alloc, &self.1)?))
     }
+}
+
+pub(crate) fn clone_suffixes(alloc: Global, items: &[CloneSuffix]) -> Result<Vec<CloneSuffix>>
+    ensures same_trees { IfOk result (λ r. trees tag_of_clone_suffix parts_of_clone_suffix r.items ≡ trees tag_of_clone_suffix parts_of_clone_suffix items.now) }
+    ensures refused { IfErr result (λ e. e ≡ OutOfMemory) }
+{
+    let mut copy = Vec::new(alloc);
+    for item in items {
+        copy.push(item.try_clone(alloc)?)?;
+    }
+    Ok(copy)
 }
 
 impl BareFunctionType {

@@ -2,7 +2,9 @@
 #![tactic(auto)]
 
 mod accessors;
+mod clone_entries;
 mod clone_leaves;
+mod clone_nodes;
 mod entries;
 mod leaves;
 mod nodes;
@@ -12,6 +14,7 @@ mod same_leaves;
 mod same_names;
 mod same_nodes;
 mod same_parts;
+mod try_clone_nodes;
 
 pub use entries::{
     ArrayType, ClassEnumType, Decltype, ExceptionSpec, FunctionType, LeafName, Prefix,
