@@ -8,6 +8,7 @@ ghost use Rattle.demangle_core.specs.Same.{same_tables_equiv};
 ghost use Rattle.demangle_core.specs.Table.{added, cut, empty_table, entry_at, listed, numbered, same_tables, size, sizes, type_behind};
 ghost use Rattle.demangle_nodes.specs.TreeLeaves.{tree_of_type_handle};
 ghost use Rattle.demangle_nodes.specs.TreeEntries.{tree_of_substitutable, tree_of_type_node};
+ghost use Rattle.demangle_text.specs.declared.error.Error.TheVariants.{OutOfMemory};
 ghost use Rattle.demangle_tree.specs.View.{Climb, Rise, Rise-prop, entry_trees};
 
 use demangle_nodes::{Substitutable, TypeHandle, TypeNode};
@@ -186,6 +187,23 @@ impl SubstitutionTable {
         Some(last)
     }
 
+    /// A copy, with the order between both lists; `OutOfMemory` is its only refusal.
+    #[tactic(auto, using(crate::proofs::Copies::copies))]
+    pub fn try_clone(&self, alloc: Global) -> demangle_text::Result<SubstitutionTable>
+        ensures equal { IfOk result (λ r. table_of r ≡ table_of self.now) }
+        ensures refused { IfErr result (λ e. e ≡ OutOfMemory) }
+    {
+        let substitutions = copied(alloc, &self.substitutions)?;
+        let non_substitutions = copied(alloc, &self.non_substitutions)?;
+        let mut kept = Vec::new(alloc);
+        kept.extend_from_slice(&self.kept)?;
+        Ok(SubstitutionTable {
+            substitutions,
+            non_substitutions,
+            kept,
+        })
+    }
+
     /// Cuts both lists to these lengths: what was inserted after them is gone.
     #[tactic(auto, using(crate::proofs::Calls::calls))]
     pub fn cut_back(&mut self, lengths: (usize, usize))
@@ -239,4 +257,15 @@ fn lower(counts: &mut Vec<usize>, most: usize)
         i -= 1;
         counts[i] = most;
     }
+}
+
+fn copied(alloc: Global, entries: &[Substitutable]) -> demangle_text::Result<Vec<Substitutable>>
+    ensures copied { IfOk result (λ r. entry_trees r.items ≡ entry_trees entries.now) }
+    ensures refused { IfErr result (λ e. e ≡ OutOfMemory) }
+{
+    let mut copy = Vec::new(alloc);
+    for entry in entries {
+        copy.push(entry.try_clone(alloc)?)?;
+    }
+    Ok(copy)
 }
