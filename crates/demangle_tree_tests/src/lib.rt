@@ -3,9 +3,13 @@
 #![tactic(auto)]
 
 #[cfg(test)]
+mod copies;
+#[cfg(test)]
 mod equality;
 #[cfg(test)]
 mod lookups;
+#[cfg(test)]
+mod nodes;
 #[cfg(test)]
 mod samples;
 #[cfg(test)]
