@@ -1,8 +1,8 @@
 //! The template arguments of a name or a type.
 
-ghost use Rattle.std.specs.Prelude.{◌≡◌, ◌+◌, option_map};
-ghost use Rattle.demangle_core.specs.Core.{N, U};
-ghost use Rattle.demangle_core.specs.Table.{size};
+ghost use Rattle.std.specs.Prelude.{◌≡◌, ◌+◌, Option, option_map};
+ghost use Rattle.demangle_core.specs.Core.{Core, N, U};
+ghost use Rattle.demangle_core.specs.Table.{Table, size};
 ghost use Rattle.demangle_tree.specs.Lookups.{after, args_of_prefix, args_of_type, args_step, prefix_args, resolve, type_args};
 ghost use Rattle.demangle_tree.specs.LookupsOf.{args_next};
 ghost use Rattle.demangle_tree.specs.TableOf.{table_of};
@@ -176,69 +176,72 @@ fn follow_type<'a>(first: ArgsStep<'a>, subs: &'a SubstitutionTable) -> Option<&
 
 /// The template arguments of a name or a type.
 pub trait GetTemplateArgs {
+    ghost arguments: { Self → Table → Option Core };
+
     /// The arguments, found in the components that this refers to where they aren't here; `None` exactly where there are none.
-    fn get_template_args<'a>(&'a self, subs: &'a SubstitutionTable) -> Option<&'a TemplateArgs>;
+    fn get_template_args<'a>(&'a self, subs: &'a SubstitutionTable) -> Option<&'a TemplateArgs>
+        ensures { option_map (λ x. tree_of_template_args x.now) result ≡ arguments self.now (table_of subs.now) };
 }
 
 impl GetTemplateArgs for Name {
+    ghost arguments = { λ x t. args_of_prefix t (tree_of_name x) };
+
     #[tactic(auto, unfolding(crate::specs::Lookups::args_of_prefix))]
-    fn get_template_args<'a>(&'a self, subs: &'a SubstitutionTable) -> Option<&'a TemplateArgs>
-        ensures { option_map (λ x. tree_of_template_args x.now) result ≡ args_of_prefix (table_of subs.now) (tree_of_name self.now) }
-    {
+    fn get_template_args<'a>(&'a self, subs: &'a SubstitutionTable) -> Option<&'a TemplateArgs> {
         follow_prefix(args_of_name(self), subs)
     }
 }
 
 impl GetTemplateArgs for NestedName {
+    ghost arguments = { λ x t. args_of_prefix t (tree_of_nested_name x) };
+
     #[tactic(auto, unfolding(crate::specs::Lookups::args_of_prefix))]
-    fn get_template_args<'a>(&'a self, subs: &'a SubstitutionTable) -> Option<&'a TemplateArgs>
-        ensures { option_map (λ x. tree_of_template_args x.now) result ≡ args_of_prefix (table_of subs.now) (tree_of_nested_name self.now) }
-    {
+    fn get_template_args<'a>(&'a self, subs: &'a SubstitutionTable) -> Option<&'a TemplateArgs> {
         follow_prefix(args_of_nested_name(self), subs)
     }
 }
 
 impl GetTemplateArgs for Prefix {
+    ghost arguments = { λ x t. args_of_prefix t (tree_of_prefix x) };
+
     #[tactic(auto, unfolding(crate::specs::Lookups::args_of_prefix))]
-    fn get_template_args<'a>(&'a self, subs: &'a SubstitutionTable) -> Option<&'a TemplateArgs>
-        ensures { option_map (λ x. tree_of_template_args x.now) result ≡ args_of_prefix (table_of subs.now) (tree_of_prefix self.now) }
-    {
+    fn get_template_args<'a>(&'a self, subs: &'a SubstitutionTable) -> Option<&'a TemplateArgs> {
         follow_prefix(args_of_prefix(self), subs)
     }
 }
 
 impl GetTemplateArgs for PrefixHandle {
+    ghost arguments = { λ x t. args_of_prefix t (tree_of_prefix_handle x) };
+
     #[tactic(auto, unfolding(crate::specs::Lookups::args_of_prefix))]
-    fn get_template_args<'a>(&'a self, subs: &'a SubstitutionTable) -> Option<&'a TemplateArgs>
-        ensures { option_map (λ x. tree_of_template_args x.now) result ≡ args_of_prefix (table_of subs.now) (tree_of_prefix_handle self.now) }
-    {
+    fn get_template_args<'a>(&'a self, subs: &'a SubstitutionTable) -> Option<&'a TemplateArgs> {
         follow_prefix(args_of_prefix_handle(self), subs)
     }
 }
 
 impl GetTemplateArgs for LocalName {
+    ghost arguments = { λ x t. args_of_prefix t (tree_of_local_name x) };
+
     #[tactic(auto, unfolding(crate::specs::Lookups::args_of_prefix))]
-    fn get_template_args<'a>(&'a self, subs: &'a SubstitutionTable) -> Option<&'a TemplateArgs>
-        ensures { option_map (λ x. tree_of_template_args x.now) result ≡ args_of_prefix (table_of subs.now) (tree_of_local_name self.now) }
-    {
+    fn get_template_args<'a>(&'a self, subs: &'a SubstitutionTable) -> Option<&'a TemplateArgs> {
         follow_prefix(args_of_local_name(self), subs)
     }
 }
 
 impl GetTemplateArgs for TypeHandle {
+    ghost arguments = { λ x t. args_of_type t (tree_of_type_handle x) };
+
     #[tactic(auto, unfolding(crate::specs::Lookups::args_of_type))]
-    fn get_template_args<'a>(&'a self, subs: &'a SubstitutionTable) -> Option<&'a TemplateArgs>
-        ensures { option_map (λ x. tree_of_template_args x.now) result ≡ args_of_type (table_of subs.now) (tree_of_type_handle self.now) }
-    {
+    fn get_template_args<'a>(&'a self, subs: &'a SubstitutionTable) -> Option<&'a TemplateArgs> {
         follow_type(args_of_type_handle(self), subs)
     }
 }
 
 impl GetTemplateArgs for TypeNode {
+    ghost arguments = { λ x t. args_of_type t (tree_of_type_node x) };
+
     #[tactic(auto, unfolding(crate::specs::Lookups::args_of_type))]
-    fn get_template_args<'a>(&'a self, subs: &'a SubstitutionTable) -> Option<&'a TemplateArgs>
-        ensures { option_map (λ x. tree_of_template_args x.now) result ≡ args_of_type (table_of subs.now) (tree_of_type_node self.now) }
-    {
+    fn get_template_args<'a>(&'a self, subs: &'a SubstitutionTable) -> Option<&'a TemplateArgs> {
         follow_type(args_of_type_node(self), subs)
     }
 }
