@@ -23,7 +23,7 @@ fn is_copy<T: PartialEq + Drop>(copy: Result<T>, original: &T) -> bool {
 }
 
 #[test]
-fn copies_of_leaves(rt: HostRuntime) -> core::result::Result<(), Fail> {
+fn copies_of_leaves(rt: HostRuntime) -> std::result::Result<(), Fail> {
     let alloc = rt.alloc();
     let tags = tags(alloc)?;
     assert!(rt; is_copy(tags.try_clone(alloc), &tags));
@@ -39,7 +39,7 @@ fn copies_of_leaves(rt: HostRuntime) -> core::result::Result<(), Fail> {
 }
 
 #[test]
-fn copies_of_small_names(rt: HostRuntime) -> core::result::Result<(), Fail> {
+fn copies_of_small_names(rt: HostRuntime) -> std::result::Result<(), Fail> {
     let alloc = rt.alloc();
     let plain = unqualified(alloc)?;
     assert!(rt; is_copy(plain.try_clone(alloc), &plain));
@@ -58,7 +58,7 @@ fn copies_of_small_names(rt: HostRuntime) -> core::result::Result<(), Fail> {
 }
 
 #[test]
-fn copies_of_names(rt: HostRuntime) -> core::result::Result<(), Fail> {
+fn copies_of_names(rt: HostRuntime) -> std::result::Result<(), Fail> {
     let alloc = rt.alloc();
     let name = name(alloc)?;
     assert!(rt; is_copy(name.try_clone(alloc), &name));
@@ -72,7 +72,7 @@ fn copies_of_names(rt: HostRuntime) -> core::result::Result<(), Fail> {
 }
 
 #[test]
-fn copies_of_whole_names(rt: HostRuntime) -> core::result::Result<(), Fail> {
+fn copies_of_whole_names(rt: HostRuntime) -> std::result::Result<(), Fail> {
     let alloc = rt.alloc();
     let function = function(alloc)?;
     assert!(rt; is_copy(function.try_clone(alloc), &function));
@@ -86,7 +86,7 @@ fn copies_of_whole_names(rt: HostRuntime) -> core::result::Result<(), Fail> {
 }
 
 #[test]
-fn copies_of_expressions(rt: HostRuntime) -> core::result::Result<(), Fail> {
+fn copies_of_expressions(rt: HostRuntime) -> std::result::Result<(), Fail> {
     let alloc = rt.alloc();
     let sum = sum(alloc)?;
     assert!(rt; is_copy(sum.try_clone(alloc), &sum));
@@ -109,7 +109,7 @@ fn copies_of_expressions(rt: HostRuntime) -> core::result::Result<(), Fail> {
 }
 
 #[test]
-fn a_copy_keeps_its_place(rt: HostRuntime) -> core::result::Result<(), Fail> {
+fn a_copy_keeps_its_place(rt: HostRuntime) -> std::result::Result<(), Fail> {
     let alloc = rt.alloc();
     let arguments = arguments(alloc)?;
     let copy = arguments.try_clone(alloc)?;
@@ -122,7 +122,7 @@ fn a_copy_keeps_its_place(rt: HostRuntime) -> core::result::Result<(), Fail> {
 }
 
 #[test]
-fn copies_of_unresolved_names(rt: HostRuntime) -> core::result::Result<(), Fail> {
+fn copies_of_unresolved_names(rt: HostRuntime) -> std::result::Result<(), Fail> {
     let alloc = rt.alloc();
     let simple = simple_id(alloc)?;
     assert!(rt; is_copy(simple.try_clone(alloc), &simple));
@@ -140,7 +140,7 @@ fn copies_of_unresolved_names(rt: HostRuntime) -> core::result::Result<(), Fail>
 }
 
 #[test]
-fn copies_of_types_with_expressions(rt: HostRuntime) -> core::result::Result<(), Fail> {
+fn copies_of_types_with_expressions(rt: HostRuntime) -> std::result::Result<(), Fail> {
     let alloc = rt.alloc();
     let decltype = Decltype::IdExpression(Box::new(alloc, sum(alloc)?)?);
     assert!(rt; is_copy(decltype.try_clone(alloc), &decltype));
@@ -156,7 +156,7 @@ fn copies_of_types_with_expressions(rt: HostRuntime) -> core::result::Result<(),
 }
 
 #[test]
-fn copies_of_functions_and_types(rt: HostRuntime) -> core::result::Result<(), Fail> {
+fn copies_of_functions_and_types(rt: HostRuntime) -> std::result::Result<(), Fail> {
     let alloc = rt.alloc();
     let exceptions = ExceptionSpec::Computed(Box::new(alloc, sum(alloc)?)?);
     assert!(rt; is_copy(exceptions.try_clone(alloc), &exceptions));
@@ -179,7 +179,7 @@ fn copies_of_functions_and_types(rt: HostRuntime) -> core::result::Result<(), Fa
 }
 
 #[test]
-fn a_copy_of_a_table(rt: HostRuntime) -> core::result::Result<(), Fail> {
+fn a_copy_of_a_table(rt: HostRuntime) -> std::result::Result<(), Fail> {
     let alloc = rt.alloc();
     let mut list = Vec::new(alloc);
     list.push(Substitutable::TypeNode(TypeNode::PointerTo(handle())))?;

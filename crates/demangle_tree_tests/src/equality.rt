@@ -9,7 +9,7 @@ use demangle_tree::{
 use std::test::Fail;
 
 #[test]
-fn names_built_apart_are_equal(rt: HostRuntime) -> core::result::Result<(), Fail> {
+fn names_built_apart_are_equal(rt: HostRuntime) -> std::result::Result<(), Fail> {
     let alloc = rt.alloc();
     let whole = mangled(alloc)?;
     assert!(rt; whole == mangled(alloc)?);
@@ -27,7 +27,7 @@ fn names_built_apart_are_equal(rt: HostRuntime) -> core::result::Result<(), Fail
 }
 
 #[test]
-fn equality_leaves_the_place_out(rt: HostRuntime) -> core::result::Result<(), Fail> {
+fn equality_leaves_the_place_out(rt: HostRuntime) -> std::result::Result<(), Fail> {
     let alloc = rt.alloc();
     let here = arguments(alloc)?;
     let there = TemplateArgs(arguments(alloc)?.0, 9);
@@ -38,7 +38,7 @@ fn equality_leaves_the_place_out(rt: HostRuntime) -> core::result::Result<(), Fa
 }
 
 #[test]
-fn expressions_built_apart_are_equal(rt: HostRuntime) -> core::result::Result<(), Fail> {
+fn expressions_built_apart_are_equal(rt: HostRuntime) -> std::result::Result<(), Fail> {
     let alloc = rt.alloc();
     assert!(rt; sum(alloc)? == sum(alloc)?);
     assert!(rt; sum(alloc)? != Expression::Rethrow);
@@ -48,7 +48,7 @@ fn expressions_built_apart_are_equal(rt: HostRuntime) -> core::result::Result<()
 }
 
 #[test]
-fn entries_built_apart_are_equal(rt: HostRuntime) -> core::result::Result<(), Fail> {
+fn entries_built_apart_are_equal(rt: HostRuntime) -> std::result::Result<(), Fail> {
     let alloc = rt.alloc();
     let array = ArrayType::DimensionExpression(Box::new(alloc, sum(alloc)?)?, handle());
     assert!(rt; array == ArrayType::DimensionExpression(Box::new(alloc, sum(alloc)?)?, handle()));
@@ -62,7 +62,7 @@ fn entries_built_apart_are_equal(rt: HostRuntime) -> core::result::Result<(), Fa
 }
 
 #[test]
-fn tables_are_equal_by_both_lists(rt: HostRuntime) -> core::result::Result<(), Fail> {
+fn tables_are_equal_by_both_lists(rt: HostRuntime) -> std::result::Result<(), Fail> {
     let alloc = rt.alloc();
     let mut table = SubstitutionTable::new(alloc);
     let mut other = SubstitutionTable::new(alloc);

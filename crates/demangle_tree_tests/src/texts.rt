@@ -22,7 +22,7 @@ fn is_shown<T: Debug>(alloc: Global, node: &T, text: &str) -> bool {
 }
 
 #[test]
-fn expressions_are_shown(rt: HostRuntime) -> core::result::Result<(), Fail> {
+fn expressions_are_shown(rt: HostRuntime) -> std::result::Result<(), Fail> {
     let alloc = rt.alloc();
     let mut list = Vec::new(alloc);
     list.push(Expression::SizeofType(TypeHandle::BackReference(1)))?;
@@ -51,7 +51,7 @@ fn expressions_are_shown(rt: HostRuntime) -> core::result::Result<(), Fail> {
 }
 
 #[test]
-fn types_are_shown(rt: HostRuntime) -> core::result::Result<(), Fail> {
+fn types_are_shown(rt: HostRuntime) -> std::result::Result<(), Fail> {
     let alloc = rt.alloc();
     let function = FunctionType {
         cv_qualifiers: CvQualifiers::default(),
@@ -80,7 +80,7 @@ fn types_are_shown(rt: HostRuntime) -> core::result::Result<(), Fail> {
 }
 
 #[test]
-fn a_table_is_shown(rt: HostRuntime) -> core::result::Result<(), Fail> {
+fn a_table_is_shown(rt: HostRuntime) -> std::result::Result<(), Fail> {
     let alloc = rt.alloc();
     let decltype = Decltype::Expression(Box::new(alloc, Expression::Rethrow)?);
     let mut table = SubstitutionTable::new(alloc);
