@@ -7,6 +7,8 @@ mod equality;
 #[cfg(test)]
 mod lookups;
 #[cfg(test)]
+mod nodes;
+#[cfg(test)]
 mod samples;
 #[cfg(test)]
 mod table;
