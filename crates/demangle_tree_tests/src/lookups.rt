@@ -2,7 +2,7 @@
 
 use crate::samples::{
     class_name, constructor, conversion_to_int, destructor, is_class, no_qualifiers, operator_new,
-    place, table_of_class, template_of_class,
+    place, position, table_of_class, template_of_class,
 };
 use demangle_tree::{
     GetLeafName, GetTemplateArgs, IsCtorDtorConversion, LeafName, NestedName, NonSubstitution,
@@ -13,13 +13,10 @@ use demangle_vocab::{RefQualifier, WellKnownComponent};
 use std::alloc::Global;
 
 // A class, and a template of it in the second list.
-fn class_and_template(rt: &HostRuntime) -> Option<SubstitutionTable> {
-    let alloc = rt.alloc();
+fn class_and_template(alloc: Global) -> Option<SubstitutionTable> {
     let mut subs = table_of_class(alloc)?;
-    match subs.insert_non_substitution(template_of_class(alloc)) {
-        Ok(_) => Some(subs),
-        Err(_) => None,
-    }
+    position(subs.insert_non_substitution(template_of_class(alloc)))?;
+    Some(subs)
 }
 
 fn member(prefix: PrefixHandle, name: UnqualifiedName) -> NestedName {
@@ -93,14 +90,14 @@ fn a_class_is_no_constructor(rt: HostRuntime) {
 
 #[test]
 fn a_template_has_its_arguments(rt: HostRuntime) {
-    let subs = class_and_template(&rt).expect(&rt, "memory");
+    let subs = class_and_template(rt.alloc()).expect(&rt, "memory");
     let template = PrefixHandle::NonSubstitution(NonSubstitution(0));
     assert!(rt; place(template.get_template_args(&subs)) == Some(7));
 }
 
 #[test]
 fn a_template_has_the_leaf_of_its_name(rt: HostRuntime) {
-    let subs = class_and_template(&rt).expect(&rt, "memory");
+    let subs = class_and_template(rt.alloc()).expect(&rt, "memory");
     let template = PrefixHandle::NonSubstitution(NonSubstitution(0));
     assert!(rt; is_class(template.get_leaf_name(&subs)));
 }
@@ -142,17 +139,17 @@ fn a_nested_name_gives_its_fields(rt: HostRuntime) {
     assert!(rt; name.ref_qualifier().is_some());
 }
 
-// A constructor with the prefix at `position`, which has no leaf name but that of the prefix.
-fn link(alloc: Global, position: usize) -> Substitutable {
-    Substitutable::Prefix(Prefix::Nested(PrefixHandle::BackReference(position), constructor(alloc)))
+// A constructor with the prefix at `end`, which has no leaf name but that of the prefix.
+fn link(alloc: Global, end: usize) -> Substitutable {
+    Substitutable::Prefix(Prefix::Nested(PrefixHandle::BackReference(end), constructor(alloc)))
 }
 
 #[test]
 fn a_long_chain_takes_no_stack(rt: HostRuntime) {
     let alloc = rt.alloc();
     let mut subs = table_of_class(alloc).expect(&rt, "memory");
-    for position in 0..100_000 {
-        assert!(rt; subs.insert(link(alloc, position)).is_ok());
+    for end in 0..100_000 {
+        assert!(rt; position(subs.insert(link(alloc, end))).is_some());
     }
     assert!(rt; is_class(PrefixHandle::BackReference(100_000).get_leaf_name(&subs)));
 }

@@ -50,13 +50,16 @@ pub fn is_class(leaf: Option<LeafName<'_>>) -> bool {
     }
 }
 
+/// The position that an insertion answers; `None` for want of memory.
+pub fn position(inserted: Result<usize, Substitutable>) -> Option<usize> {
+    inserted.ok()
+}
+
 /// A table whose entry 0 is `class`.
 pub fn table_of_class(alloc: Global) -> Option<SubstitutionTable> {
     let mut subs = SubstitutionTable::new(alloc);
-    match subs.insert(class(alloc)) {
-        Ok(_) => Some(subs),
-        Err(_) => None,
-    }
+    position(subs.insert(class(alloc)))?;
+    Some(subs)
 }
 
 pub fn constructor(alloc: Global) -> UnqualifiedName {

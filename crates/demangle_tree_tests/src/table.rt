@@ -1,7 +1,10 @@
 //! The table's calls.
 
-use crate::samples::{class, int, is_pointer_to_int, is_type_pointer_to_int, pointer_to_int};
+use crate::samples::{
+    class, int, is_pointer_to_int, is_type_pointer_to_int, pointer_to_int, position,
+};
 use demangle_tree::{Substitutable, SubstitutionTable, TypeHandle, insert_and_cut_back};
+use std::alloc::Global;
 
 fn count_pointers(subs: &SubstitutionTable) -> usize {
     let mut count: usize = 0;
@@ -33,24 +36,27 @@ fn is_other_pointer(subs: &SubstitutionTable, idx: usize) -> bool {
     idx < subs.lengths().1 && is_pointer_to_int(subs.non_substitution(idx))
 }
 
-// Two numbered components, a class and a pointer.
-fn two_entries(rt: &HostRuntime) -> Option<SubstitutionTable> {
-    let alloc = rt.alloc();
-    let mut subs = SubstitutionTable::new(alloc);
-    if subs.insert(class(alloc)).is_err() || subs.insert(pointer_to_int()).is_err() {
-        return None;
+// Whether what comes out is the pointer; `None` where nothing does.
+fn pop_pointer(subs: &mut SubstitutionTable) -> Option<bool> {
+    match subs.pop() {
+        Some(entry) => Some(is_pointer_to_int(&entry)),
+        None => None,
     }
+}
+
+// Two numbered components, a class and a pointer.
+fn two_entries(alloc: Global) -> Option<SubstitutionTable> {
+    let mut subs = SubstitutionTable::new(alloc);
+    position(subs.insert(class(alloc)))?;
+    position(subs.insert(pointer_to_int()))?;
     Some(subs)
 }
 
 // One component in each list.
-fn one_each(rt: &HostRuntime) -> Option<SubstitutionTable> {
-    let mut subs = SubstitutionTable::new(rt.alloc());
-    if subs.insert(pointer_to_int()).is_err()
-        || subs.insert_non_substitution(pointer_to_int()).is_err()
-    {
-        return None;
-    }
+fn one_each(alloc: Global) -> Option<SubstitutionTable> {
+    let mut subs = SubstitutionTable::new(alloc);
+    position(subs.insert(pointer_to_int()))?;
+    position(subs.insert_non_substitution(pointer_to_int()))?;
     Some(subs)
 }
 
@@ -66,7 +72,7 @@ fn a_new_table_is_empty(rt: HostRuntime) {
 #[test]
 fn the_first_component_is_number_0(rt: HostRuntime) {
     let mut subs = SubstitutionTable::new(rt.alloc());
-    assert!(rt; matches!(subs.insert(pointer_to_int()), Ok(0)));
+    assert!(rt; position(subs.insert(pointer_to_int())) == Some(0));
     assert!(rt; subs.contains(0));
     assert!(rt; !subs.contains(1));
     assert!(rt; subs.len() == 1);
@@ -77,15 +83,15 @@ fn the_first_component_is_number_0(rt: HostRuntime) {
 fn the_second_component_is_number_1(rt: HostRuntime) {
     let alloc = rt.alloc();
     let mut subs = SubstitutionTable::new(alloc);
-    assert!(rt; matches!(subs.insert(class(alloc)), Ok(0)));
-    assert!(rt; matches!(subs.insert(pointer_to_int()), Ok(1)));
+    assert!(rt; position(subs.insert(class(alloc))) == Some(0));
+    assert!(rt; position(subs.insert(pointer_to_int())) == Some(1));
     assert!(rt; !is_some_pointer(subs.get(0)));
     assert!(rt; is_some_pointer(subs.get(1)));
 }
 
 #[test]
 fn a_handle_finds_its_type(rt: HostRuntime) {
-    let subs = two_entries(&rt).expect(&rt, "memory");
+    let subs = two_entries(rt.alloc()).expect(&rt, "memory");
     let cases = [
         (TypeHandle::BackReference(0), false),
         (TypeHandle::BackReference(1), true),
@@ -100,8 +106,8 @@ fn a_handle_finds_its_type(rt: HostRuntime) {
 #[test]
 fn the_others_have_positions_of_their_own(rt: HostRuntime) {
     let mut subs = SubstitutionTable::new(rt.alloc());
-    assert!(rt; matches!(subs.insert(pointer_to_int()), Ok(0)));
-    assert!(rt; matches!(subs.insert_non_substitution(pointer_to_int()), Ok(0)));
+    assert!(rt; position(subs.insert(pointer_to_int())) == Some(0));
+    assert!(rt; position(subs.insert_non_substitution(pointer_to_int())) == Some(0));
     assert!(rt; subs.lengths() == (1, 1));
     assert!(rt; is_some_pointer(subs.get_non_substitution(0)));
     assert!(rt; is_other_pointer(&subs, 0));
@@ -109,7 +115,7 @@ fn the_others_have_positions_of_their_own(rt: HostRuntime) {
 
 #[test]
 fn cutting_takes_out_the_others(rt: HostRuntime) {
-    let mut subs = one_each(&rt).expect(&rt, "memory");
+    let mut subs = one_each(rt.alloc()).expect(&rt, "memory");
     subs.cut_back((1, 0));
     assert!(rt; subs.get_non_substitution(0).is_none());
     assert!(rt; subs.lengths() == (1, 0));
@@ -117,7 +123,7 @@ fn cutting_takes_out_the_others(rt: HostRuntime) {
 
 #[test]
 fn cutting_takes_out_numbered_ones(rt: HostRuntime) {
-    let mut subs = one_each(&rt).expect(&rt, "memory");
+    let mut subs = one_each(rt.alloc()).expect(&rt, "memory");
     subs.cut_back((0, 1));
     assert!(rt; subs.get(0).is_none());
     assert!(rt; is_some_pointer(subs.get_non_substitution(0)));
@@ -126,19 +132,18 @@ fn cutting_takes_out_numbered_ones(rt: HostRuntime) {
 
 #[test]
 fn what_is_inserted_can_be_cut(rt: HostRuntime) {
-    let mut subs = one_each(&rt).expect(&rt, "memory");
+    let mut subs = one_each(rt.alloc()).expect(&rt, "memory");
     insert_and_cut_back(&mut subs, pointer_to_int(), pointer_to_int());
     assert!(rt; subs.lengths() == (1, 1));
 }
 
 #[test]
 fn the_last_comes_out(rt: HostRuntime) {
-    let mut subs = two_entries(&rt).expect(&rt, "memory");
-    let last = subs.pop();
-    assert!(rt; is_some_pointer(last.as_ref()));
+    let mut subs = two_entries(rt.alloc()).expect(&rt, "memory");
+    assert!(rt; pop_pointer(&mut subs) == Some(true));
     assert!(rt; subs.len() == 1);
-    assert!(rt; subs.pop().is_some());
-    assert!(rt; subs.pop().is_none());
+    assert!(rt; pop_pointer(&mut subs) == Some(false));
+    assert!(rt; pop_pointer(&mut subs) == None);
 }
 
 #[test]
