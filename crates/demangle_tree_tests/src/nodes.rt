@@ -1,4 +1,5 @@
-//! Nodes with others inside, built anew at each call.
+//! Nodes with others inside, built anew at each call. What is dropped where memory is wanting is dropped in the generic
+//! functions below, since each place that drops a node is dear to prove.
 
 use demangle_text::Result;
 use demangle_tree::{
@@ -9,6 +10,36 @@ use demangle_tree::{
 use demangle_vocab::SimpleOperatorName;
 use std::alloc::Global;
 
+pub fn both<A: Drop, B: Drop>(one: Result<A>, other: Result<B>) -> Result<(A, B)> {
+    Ok((one?, other?))
+}
+
+pub fn boxed<A: Drop>(alloc: Global, value: Result<A>) -> Result<Box<A>> {
+    let value = value?;
+    Ok(Box::new(alloc, value)?)
+}
+
+pub fn listed<A: Drop>(alloc: Global, value: Result<A>) -> Result<Vec<A>> {
+    let value = value?;
+    let mut list = Vec::new(alloc);
+    list.push(value)?;
+    Ok(list)
+}
+
+pub fn are_equal<A: PartialEq + Drop>(one: Result<A>, other: Result<A>) -> bool {
+    match both(one, other) {
+        Ok((one, other)) => one == other,
+        Err(_) => false,
+    }
+}
+
+pub fn differ<A: PartialEq + Drop>(one: Result<A>, other: Result<A>) -> bool {
+    match both(one, other) {
+        Ok((one, other)) => one != other,
+        Err(_) => false,
+    }
+}
+
 pub fn handle() -> TypeHandle {
     TypeHandle::BackReference(3)
 }
@@ -18,60 +49,52 @@ pub fn identifier() -> SourceName {
 }
 
 pub fn tags(alloc: Global) -> Result<AbiTags> {
-    let mut tags = Vec::new(alloc);
-    tags.push(AbiTag(identifier()))?;
-    Ok(AbiTags(tags))
+    listed(alloc, Ok(AbiTag(identifier()))).map(|tags| AbiTags(tags))
 }
 
 pub fn types(alloc: Global) -> Result<BareFunctionType> {
-    let mut types = Vec::new(alloc);
-    types.push(handle())?;
-    Ok(BareFunctionType(types))
+    listed(alloc, Ok(handle())).map(|types| BareFunctionType(types))
 }
 
 pub fn unqualified(alloc: Global) -> Result<UnqualifiedName> {
-    Ok(UnqualifiedName::Source(identifier(), tags(alloc)?))
+    tags(alloc).map(|tags| UnqualifiedName::Source(identifier(), tags))
 }
 
 pub fn name(alloc: Global) -> Result<Name> {
-    Ok(Name::Unscoped(UnscopedName::Std(unqualified(alloc)?)))
+    unqualified(alloc).map(|name| Name::Unscoped(UnscopedName::Std(name)))
 }
 
 pub fn function(alloc: Global) -> Result<Encoding> {
-    Ok(Encoding::Function(name(alloc)?, types(alloc)?))
-}
-
-pub fn mangled(alloc: Global) -> Result<MangledName> {
-    let mut suffixes = Vec::new(alloc);
-    suffixes.push(suffix(alloc)?)?;
-    Ok(MangledName::Encoding(function(alloc)?, suffixes))
+    both(name(alloc), types(alloc)).map(|(name, types)| Encoding::Function(name, types))
 }
 
 pub fn suffix(alloc: Global) -> Result<CloneSuffix> {
-    let mut numbers = Vec::new(alloc);
-    numbers.push(-12)?;
-    Ok(CloneSuffix(CloneTypeIdentifier { start: 9, end: 14 }, numbers))
+    listed(alloc, Ok(-12)).map(|numbers| CloneSuffix(
+        CloneTypeIdentifier { start: 9, end: 14 },
+        numbers,
+    ))
+}
+
+pub fn mangled(alloc: Global) -> Result<MangledName> {
+    both(function(alloc), listed(alloc, suffix(alloc))).map(|(
+        encoding,
+        suffixes,
+    )| MangledName::Encoding(encoding, suffixes))
 }
 
 pub fn sum(alloc: Global) -> Result<Expression> {
     let one = Expression::Primary(ExprPrimary::Literal(handle(), 2, 3));
-    let other = Expression::Throw(Box::new(alloc, Expression::Rethrow)?);
-    Ok(Expression::Fold(FoldExpr::BinaryLeft(
-        SimpleOperatorName::Add,
-        Box::new(alloc, one)?,
-        Box::new(alloc, other)?,
-    )))
+    let other = boxed(alloc, Ok(Expression::Rethrow)).map(|expr| Expression::Throw(expr));
+    both(boxed(alloc, Ok(one)), boxed(alloc, other)).map(|(one, other)| Expression::Fold(
+        FoldExpr::BinaryLeft(SimpleOperatorName::Add, one, other),
+    ))
 }
 
-pub fn arguments(alloc: Global) -> Result<TemplateArgs> {
-    let mut inner = Vec::new(alloc);
-    inner.push(TemplateArg::TypeArg(handle()))?;
-    let mut arguments = Vec::new(alloc);
-    arguments.push(TemplateArg::ArgPack(inner))?;
-    arguments.push(TemplateArg::Expression(sum(alloc)?))?;
-    Ok(TemplateArgs(arguments, 7))
+pub fn arguments(alloc: Global, place: usize) -> Result<TemplateArgs> {
+    let argument = sum(alloc).map(|expr| TemplateArg::Expression(expr));
+    listed(alloc, argument).map(|list| TemplateArgs(list, place))
 }
 
 pub fn simple_id(alloc: Global) -> Result<SimpleId> {
-    Ok(SimpleId(identifier(), Some(arguments(alloc)?)))
+    arguments(alloc, 7).map(|list| SimpleId(identifier(), Some(list)))
 }
