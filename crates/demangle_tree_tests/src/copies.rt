@@ -1,7 +1,8 @@
 //! Copies are made with ample memory, and equal what was copied.
 
 use crate::nodes::{
-    arguments, function, handle, mangled, name, simple_id, suffix, sum, tags, types, unqualified,
+    arguments, both, boxed, function, handle, listed, mangled, name, simple_id, suffix, sum, tags,
+    types, unqualified,
 };
 use demangle_text::Result;
 use demangle_tree::{
@@ -13,184 +14,185 @@ use demangle_tree::{
     UnscopedTemplateName, VectorType,
 };
 use demangle_vocab::{RefQualifier, SimpleOperatorName};
-use std::test::Fail;
+use std::alloc::Global;
 
-fn is_copy<T: PartialEq + Drop>(copy: Result<T>, original: &T) -> bool {
-    match copy {
-        Ok(copy) => copy == *original,
+fn is_copied<A: PartialEq + Drop, F: Fn(&A) -> Result<A>>(node: Result<A>, copy: &F) -> bool
+    requires { F.IsAlwaysCallable copy.now }
+{
+    let Ok(node) = node else {
+        return false;
+    };
+    match copy(&node) {
+        Ok(copied) => copied == node,
         Err(_) => false,
     }
 }
 
-#[test]
-fn copies_of_leaves(rt: HostRuntime) -> std::result::Result<(), Fail> {
-    let alloc = rt.alloc();
-    let tags = tags(alloc)?;
-    assert!(rt; is_copy(tags.try_clone(alloc), &tags));
-    let suffix = suffix(alloc)?;
-    assert!(rt; is_copy(suffix.try_clone(alloc), &suffix));
-    let types = types(alloc)?;
-    assert!(rt; is_copy(types.try_clone(alloc), &types));
-    let signature = LambdaSig(types.0);
-    assert!(rt; is_copy(signature.try_clone(alloc), &signature));
-    let closure = ClosureTypeName(signature, Some(2));
-    assert!(rt; is_copy(closure.try_clone(alloc), &closure));
-    Ok(())
+fn signature(alloc: Global) -> Result<LambdaSig> {
+    types(alloc).map(|types| LambdaSig(types.0))
 }
 
-#[test]
-fn copies_of_small_names(rt: HostRuntime) -> std::result::Result<(), Fail> {
-    let alloc = rt.alloc();
-    let plain = unqualified(alloc)?;
-    assert!(rt; is_copy(plain.try_clone(alloc), &plain));
-    let unscoped = UnscopedName::Unqualified(plain);
-    assert!(rt; is_copy(unscoped.try_clone(alloc), &unscoped));
-    let template = UnscopedTemplateName(unscoped);
-    assert!(rt; is_copy(template.try_clone(alloc), &template));
-    let nested = NestedName::Unqualified(
-        CvQualifiers::default(),
-        Some(RefQualifier::LValueRef),
-        Some(PrefixHandle::BackReference(0)),
-        unqualified(alloc)?,
-    );
-    assert!(rt; is_copy(nested.try_clone(alloc), &nested));
-    Ok(())
+fn computed(alloc: Global) -> Result<ExceptionSpec> {
+    boxed(alloc, sum(alloc)).map(|expr| ExceptionSpec::Computed(expr))
 }
 
-#[test]
-fn copies_of_names(rt: HostRuntime) -> std::result::Result<(), Fail> {
-    let alloc = rt.alloc();
-    let name = name(alloc)?;
-    assert!(rt; is_copy(name.try_clone(alloc), &name));
-    let member = MemberName(Box::new(alloc, name)?);
-    assert!(rt; is_copy(member.try_clone(alloc), &member));
-    let local = LocalName::Relative(Box::new(alloc, function(alloc)?)?, None, None);
-    assert!(rt; is_copy(local.try_clone(alloc), &local));
-    let special = SpecialName::TransactionClone(Box::new(alloc, function(alloc)?)?);
-    assert!(rt; is_copy(special.try_clone(alloc), &special));
-    Ok(())
-}
-
-#[test]
-fn copies_of_whole_names(rt: HostRuntime) -> std::result::Result<(), Fail> {
-    let alloc = rt.alloc();
-    let function = function(alloc)?;
-    assert!(rt; is_copy(function.try_clone(alloc), &function));
-    let whole = mangled(alloc)?;
-    assert!(rt; is_copy(whole.try_clone(alloc), &whole));
-    let global = GlobalCtorDtor::Ctor(Box::new(alloc, whole)?);
-    assert!(rt; is_copy(global.try_clone(alloc), &global));
-    let literal = ExprPrimary::External(Box::new(alloc, mangled(alloc)?)?);
-    assert!(rt; is_copy(literal.try_clone(alloc), &literal));
-    Ok(())
-}
-
-#[test]
-fn copies_of_expressions(rt: HostRuntime) -> std::result::Result<(), Fail> {
-    let alloc = rt.alloc();
-    let sum = sum(alloc)?;
-    assert!(rt; is_copy(sum.try_clone(alloc), &sum));
-    let part = SubobjectExpr {
-        ty: handle(),
-        expr: Box::new(alloc, sum)?,
-        offset: -8,
-    };
-    assert!(rt; is_copy(part.try_clone(alloc), &part));
-    let fold = FoldExpr::UnaryLeft(
-        SimpleOperatorName::Add,
-        Box::new(alloc, Expression::Rethrow)?,
-    );
-    assert!(rt; is_copy(fold.try_clone(alloc), &fold));
-    let mut list = Vec::new(alloc);
-    list.push(Expression::Rethrow)?;
-    let initializer = Initializer(list);
-    assert!(rt; is_copy(initializer.try_clone(alloc), &initializer));
-    Ok(())
-}
-
-#[test]
-fn a_copy_keeps_its_place(rt: HostRuntime) -> std::result::Result<(), Fail> {
-    let alloc = rt.alloc();
-    let arguments = arguments(alloc)?;
-    let copy = arguments.try_clone(alloc)?;
-    assert!(rt; copy == arguments);
-    assert!(rt; copy.1 == 7);
-    let argument = TemplateArg::Expression(sum(alloc)?);
-    assert!(rt; is_copy(argument.try_clone(alloc), &argument));
-    assert!(rt; argument != TemplateArg::TypeArg(handle()));
-    Ok(())
-}
-
-#[test]
-fn copies_of_unresolved_names(rt: HostRuntime) -> std::result::Result<(), Fail> {
-    let alloc = rt.alloc();
-    let simple = simple_id(alloc)?;
-    assert!(rt; is_copy(simple.try_clone(alloc), &simple));
-    let level = UnresolvedQualifierLevel(simple);
-    assert!(rt; is_copy(level.try_clone(alloc), &level));
-    let destructor = DestructorName::Unresolved(UnresolvedTypeHandle::BackReference(1));
-    assert!(rt; is_copy(destructor.try_clone(alloc), &destructor));
-    let base = BaseUnresolvedName::Destructor(destructor);
-    assert!(rt; is_copy(base.try_clone(alloc), &base));
-    let mut levels = Vec::new(alloc);
-    levels.push(level)?;
-    let unresolved = UnresolvedName::Nested2(levels, base);
-    assert!(rt; is_copy(unresolved.try_clone(alloc), &unresolved));
-    Ok(())
-}
-
-#[test]
-fn copies_of_types_with_expressions(rt: HostRuntime) -> std::result::Result<(), Fail> {
-    let alloc = rt.alloc();
-    let decltype = Decltype::IdExpression(Box::new(alloc, sum(alloc)?)?);
-    assert!(rt; is_copy(decltype.try_clone(alloc), &decltype));
-    let unresolved = UnresolvedType::Decltype(decltype);
-    assert!(rt; is_copy(unresolved.try_clone(alloc), &unresolved));
-    let array = ArrayType::DimensionExpression(Box::new(alloc, sum(alloc)?)?, handle());
-    assert!(rt; is_copy(array.try_clone(alloc), &array));
-    let vector = VectorType::DimensionNumber(4, handle());
-    assert!(rt; is_copy(vector.try_clone(alloc), &vector));
-    let class = ClassEnumType::Named(Box::new(alloc, name(alloc)?)?);
-    assert!(rt; is_copy(class.try_clone(alloc), &class));
-    Ok(())
-}
-
-#[test]
-fn copies_of_functions_and_types(rt: HostRuntime) -> std::result::Result<(), Fail> {
-    let alloc = rt.alloc();
-    let exceptions = ExceptionSpec::Computed(Box::new(alloc, sum(alloc)?)?);
-    assert!(rt; is_copy(exceptions.try_clone(alloc), &exceptions));
-    let function = FunctionType {
+fn function_type(alloc: Global) -> Result<FunctionType> {
+    both(computed(alloc), types(alloc)).map(|(exceptions, bare)| FunctionType {
         cv_qualifiers: CvQualifiers::default(),
         exception_spec: Some(exceptions),
         transaction_safe: false,
         extern_c: true,
-        bare: types(alloc)?,
+        bare,
         ref_qualifier: None,
-    };
-    assert!(rt; is_copy(function.try_clone(alloc), &function));
-    let node = TypeNode::Function(function);
-    assert!(rt; is_copy(node.try_clone(alloc), &node));
-    let prefix = Prefix::Template(PrefixHandle::BackReference(0), arguments(alloc)?);
-    assert!(rt; is_copy(prefix.try_clone(alloc), &prefix));
-    let entry = Substitutable::Prefix(prefix);
-    assert!(rt; is_copy(entry.try_clone(alloc), &entry));
-    Ok(())
+    })
+}
+
+fn template(alloc: Global) -> Result<Prefix> {
+    arguments(alloc, 7).map(|list| Prefix::Template(PrefixHandle::BackReference(0), list))
+}
+
+fn table(alloc: Global) -> Result<SubstitutionTable> {
+    let entry = template(alloc).map(|prefix| Substitutable::Prefix(prefix));
+    listed(alloc, entry).map(|list| SubstitutionTable::from_list(alloc, list))
 }
 
 #[test]
-fn a_copy_of_a_table(rt: HostRuntime) -> std::result::Result<(), Fail> {
+fn leaves_are_copied(rt: HostRuntime) {
     let alloc = rt.alloc();
-    let mut list = Vec::new(alloc);
-    list.push(Substitutable::TypeNode(TypeNode::PointerTo(handle())))?;
-    let mut table = SubstitutionTable::from_list(alloc, list);
-    assert!(rt; is_copy(table.try_clone(alloc), &table));
-    let other = Substitutable::Prefix(Prefix::Unqualified(unqualified(alloc)?));
-    assert!(rt; table.insert_non_substitution(other).is_ok());
-    let copy = table.try_clone(alloc)?;
-    assert!(rt; copy == table);
-    assert!(rt; copy.lengths() == (1, 1));
-    table.cut_back((1, 0));
-    assert!(rt; copy != table);
-    Ok(())
+    assert!(rt; is_copied(tags(alloc), &|node| node.try_clone(alloc)));
+    assert!(rt; is_copied(suffix(alloc), &|node| node.try_clone(alloc)));
+    assert!(rt; is_copied(types(alloc), &|node| node.try_clone(alloc)));
+    assert!(rt; is_copied(signature(alloc), &|node| node.try_clone(alloc)));
+    let closure = signature(alloc).map(|types| ClosureTypeName(types, Some(2)));
+    assert!(rt; is_copied(closure, &|node| node.try_clone(alloc)));
+}
+
+#[test]
+fn small_names_are_copied(rt: HostRuntime) {
+    let alloc = rt.alloc();
+    assert!(rt; is_copied(unqualified(alloc), &|node| node.try_clone(alloc)));
+    let unscoped = unqualified(alloc).map(|name| UnscopedName::Unqualified(name));
+    assert!(rt; is_copied(unscoped, &|node| node.try_clone(alloc)));
+    let template = unqualified(alloc).map(|name| UnscopedTemplateName(UnscopedName::Std(name)));
+    assert!(rt; is_copied(template, &|node| node.try_clone(alloc)));
+    let nested = unqualified(alloc).map(|name| NestedName::Unqualified(
+        CvQualifiers::default(),
+        Some(RefQualifier::LValueRef),
+        Some(PrefixHandle::BackReference(0)),
+        name,
+    ));
+    assert!(rt; is_copied(nested, &|node| node.try_clone(alloc)));
+}
+
+#[test]
+fn names_are_copied(rt: HostRuntime) {
+    let alloc = rt.alloc();
+    assert!(rt; is_copied(name(alloc), &|node| node.try_clone(alloc)));
+    let member = boxed(alloc, name(alloc)).map(|name| MemberName(name));
+    assert!(rt; is_copied(member, &|node| node.try_clone(alloc)));
+    let local = boxed(alloc, function(alloc)).map(|encoding| LocalName::Relative(
+        encoding, None, None,
+    ));
+    assert!(rt; is_copied(local, &|node| node.try_clone(alloc)));
+    let special = boxed(alloc, function(alloc)).map(|encoding| SpecialName::TransactionClone(
+        encoding,
+    ));
+    assert!(rt; is_copied(special, &|node| node.try_clone(alloc)));
+}
+
+#[test]
+fn whole_names_are_copied(rt: HostRuntime) {
+    let alloc = rt.alloc();
+    assert!(rt; is_copied(function(alloc), &|node| node.try_clone(alloc)));
+    assert!(rt; is_copied(mangled(alloc), &|node| node.try_clone(alloc)));
+    let global = boxed(alloc, mangled(alloc)).map(|name| GlobalCtorDtor::Ctor(name));
+    assert!(rt; is_copied(global, &|node| node.try_clone(alloc)));
+    let literal = boxed(alloc, mangled(alloc)).map(|name| ExprPrimary::External(name));
+    assert!(rt; is_copied(literal, &|node| node.try_clone(alloc)));
+}
+
+#[test]
+fn expressions_are_copied(rt: HostRuntime) {
+    let alloc = rt.alloc();
+    assert!(rt; is_copied(sum(alloc), &|node| node.try_clone(alloc)));
+    let part = boxed(alloc, sum(alloc)).map(|expr| SubobjectExpr {
+        ty: handle(),
+        expr,
+        offset: -8,
+    });
+    assert!(rt; is_copied(part, &|node| node.try_clone(alloc)));
+    let fold = boxed(alloc, sum(alloc)).map(|expr| FoldExpr::UnaryLeft(
+        SimpleOperatorName::Add,
+        expr,
+    ));
+    assert!(rt; is_copied(fold, &|node| node.try_clone(alloc)));
+    let initializer = listed(alloc, Ok(Expression::Rethrow)).map(|list| Initializer(list));
+    assert!(rt; is_copied(initializer, &|node| node.try_clone(alloc)));
+    let argument = sum(alloc).map(|expr| TemplateArg::Expression(expr));
+    assert!(rt; is_copied(argument, &|node| node.try_clone(alloc)));
+}
+
+#[test]
+fn a_copy_keeps_its_place(rt: HostRuntime) {
+    let alloc = rt.alloc();
+    assert!(rt; is_copied(arguments(alloc, 7), &|node| node.try_clone(alloc)));
+    let kept = match arguments(alloc, 7) {
+        Ok(list) => match list.try_clone(alloc) {
+            Ok(copied) => copied.1 == 7,
+            Err(_) => false,
+        },
+        Err(_) => false,
+    };
+    assert!(rt; kept);
+}
+
+#[test]
+fn unresolved_names_are_copied(rt: HostRuntime) {
+    let alloc = rt.alloc();
+    assert!(rt; is_copied(simple_id(alloc), &|node| node.try_clone(alloc)));
+    let level = simple_id(alloc).map(|name| UnresolvedQualifierLevel(name));
+    assert!(rt; is_copied(level, &|node| node.try_clone(alloc)));
+    let destructor = DestructorName::Unresolved(UnresolvedTypeHandle::BackReference(1));
+    assert!(rt; is_copied(Ok(destructor), &|node| node.try_clone(alloc)));
+    let base = simple_id(alloc).map(|name| BaseUnresolvedName::Name(name));
+    assert!(rt; is_copied(base, &|node| node.try_clone(alloc)));
+    let global = simple_id(alloc).map(|name| UnresolvedName::Global(BaseUnresolvedName::Name(
+        name,
+    )));
+    assert!(rt; is_copied(global, &|node| node.try_clone(alloc)));
+}
+
+#[test]
+fn types_with_expressions_are_copied(rt: HostRuntime) {
+    let alloc = rt.alloc();
+    let decltype = boxed(alloc, sum(alloc)).map(|expr| Decltype::IdExpression(expr));
+    assert!(rt; is_copied(decltype, &|node| node.try_clone(alloc)));
+    let unresolved = boxed(alloc, sum(alloc)).map(|expr| UnresolvedType::Decltype(
+        Decltype::Expression(expr),
+    ));
+    assert!(rt; is_copied(unresolved, &|node| node.try_clone(alloc)));
+    let array = boxed(alloc, sum(alloc)).map(|size| ArrayType::DimensionExpression(size, handle()));
+    assert!(rt; is_copied(array, &|node| node.try_clone(alloc)));
+    let vector = VectorType::DimensionNumber(4, handle());
+    assert!(rt; is_copied(Ok(vector), &|node| node.try_clone(alloc)));
+    let class = boxed(alloc, name(alloc)).map(|name| ClassEnumType::Named(name));
+    assert!(rt; is_copied(class, &|node| node.try_clone(alloc)));
+}
+
+#[test]
+fn functions_and_entries_are_copied(rt: HostRuntime) {
+    let alloc = rt.alloc();
+    assert!(rt; is_copied(computed(alloc), &|node| node.try_clone(alloc)));
+    assert!(rt; is_copied(function_type(alloc), &|node| node.try_clone(alloc)));
+    let node = function_type(alloc).map(|function| TypeNode::Function(function));
+    assert!(rt; is_copied(node, &|node| node.try_clone(alloc)));
+    assert!(rt; is_copied(template(alloc), &|node| node.try_clone(alloc)));
+    let entry = template(alloc).map(|prefix| Substitutable::Prefix(prefix));
+    assert!(rt; is_copied(entry, &|node| node.try_clone(alloc)));
+}
+
+#[test]
+fn a_table_is_copied(rt: HostRuntime) {
+    let alloc = rt.alloc();
+    assert!(rt; is_copied(table(alloc), &|table| table.try_clone(alloc)));
 }
