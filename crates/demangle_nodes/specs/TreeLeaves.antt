@@ -1,11 +1,9 @@
 -- The trees of the types that hold no name, type or expression by value: the name of the node, its parts in the order of
 -- the fields, and the tree of both.
-use Rattle.std.specs.Prelude.{ℕ, ℤ, pos, Bool}
+use Rattle.std.specs.Prelude.{ℕ, ℤ, pos}
 use Rattle.std.specs.declared.option.Option.{Option}
 use Rattle.std.specs.declared.option.Option.TheVariants as of_option
-use Rattle.std.specs.declared.vec.Vec.{Vec}
-use Rattle.std.specs.declared.alloc.Global.{Global}
-use Rattle.demangle_core.specs.Core.{Tag, Core, Which, end, node, place, number, flag, chosen, ref, mark, ◌⊕◌, trees, numbers}
+use Rattle.demangle_core.specs.Core.{Tag, Core, Which, end, node, place, number, flag, chosen, ref, ◌⊕◌, trees, numbers}
 use Rattle.demangle_vocab.specs.declared.operator.SimpleOperatorName.{SimpleOperatorName}
 use Rattle.demangle_vocab.specs.declared.builtin.StandardBuiltinType.{StandardBuiltinType}
 use Rattle.demangle_vocab.specs.declared.component.WellKnownComponent.{WellKnownComponent}

@@ -1,27 +1,9 @@
 -- The trees of the types that hold each other. The parts are one recursion over the constructors that the checker makes of
 -- such types, with a row for each list; that they are the trees of the fields is proved beside it, a variant at a time.
-use Rattle.std.specs.Prelude.{ℕ, ℤ, pos, Bool}
-use Rattle.std.specs.declared.option.Option.{Option}
-use Rattle.std.specs.declared.option.Option.TheVariants as of_option
-use Rattle.std.specs.declared.vec.Vec.{Vec}
+use Rattle.std.specs.Prelude.{pos}
 use Rattle.std.specs.declared.boxed.Box.{Box}
 use Rattle.std.specs.declared.alloc.Global.{Global}
-use Rattle.demangle_core.specs.Core.{Tag, Core, Which, end, node, place, number, flag, chosen, ref, mark, ◌⊕◌, trees, numbers}
-use Rattle.demangle_vocab.specs.declared.operator.SimpleOperatorName.{SimpleOperatorName}
-use Rattle.demangle_nodes.specs.declared.leaves.TemplateParam.{TemplateParam}
-use Rattle.demangle_nodes.specs.declared.leaves.Discriminator.{Discriminator}
-use Rattle.demangle_nodes.specs.declared.leaves.ResourceName.{ResourceName}
-use Rattle.demangle_nodes.specs.declared.leaves.SourceName.{SourceName}
-use Rattle.demangle_nodes.specs.declared.leaves.CloneSuffix.{CloneSuffix}
-use Rattle.demangle_nodes.specs.declared.leaves.CallOffset.{CallOffset}
-use Rattle.demangle_nodes.specs.declared.leaves.FunctionParam.{FunctionParam}
-use Rattle.demangle_nodes.specs.declared.leaves.UnscopedTemplateNameHandle.{UnscopedTemplateNameHandle}
-use Rattle.demangle_nodes.specs.declared.leaves.UnresolvedTypeHandle.{UnresolvedTypeHandle}
-use Rattle.demangle_nodes.specs.declared.leaves.TypeHandle.{TypeHandle}
-use Rattle.demangle_nodes.specs.declared.leaves.OperatorName.{OperatorName}
-use Rattle.demangle_nodes.specs.declared.leaves.BareFunctionType.{BareFunctionType}
-use Rattle.demangle_nodes.specs.declared.leaves.UnscopedName.{UnscopedName}
-use Rattle.demangle_nodes.specs.declared.leaves.NestedName.{NestedName}
+use Rattle.demangle_core.specs.Core.{Tag, Core, end, node, place, number, mark, ◌⊕◌, trees}
 use Rattle.demangle_nodes.specs.declared.nodes.MangledName.{MangledName}
 use Rattle.demangle_nodes.specs.declared.nodes.MangledName.TheVariants as of_mangled_name
 use Rattle.demangle_nodes.specs.declared.nodes.Encoding.{Encoding}
@@ -62,7 +44,7 @@ use Rattle.demangle_nodes.specs.declared.nodes.UnresolvedName.{Row_of-Unresolved
 use Rattle.demangle_nodes.specs.declared.nodes.Expression.{Held-Expression-New-2, Expression-New-2-None', Expression-New-2-Some'}
 use Rattle.demangle_nodes.specs.declared.nodes.BaseUnresolvedName.{Held-BaseUnresolvedName-Operator-1, BaseUnresolvedName-Operator-1-None', BaseUnresolvedName-Operator-1-Some'}
 use Rattle.demangle_nodes.specs.declared.nodes.LocalName.{Held-LocalName-Relative-1, LocalName-Relative-1-None', LocalName-Relative-1-Some'}
-use Rattle.demangle_nodes.specs.TreeLeaves.{tree_of_option, tree_of_number, tree_of_signed, tree_of_simple_operator_name, tag_of_template_param, parts_of_template_param, tree_of_template_param, tag_of_discriminator, parts_of_discriminator, tree_of_discriminator, tag_of_resource_name, parts_of_resource_name, tree_of_resource_name, tag_of_source_name, parts_of_source_name, tree_of_source_name, tag_of_clone_suffix, parts_of_clone_suffix, tree_of_clone_suffix, tag_of_call_offset, parts_of_call_offset, tree_of_call_offset, tag_of_function_param, parts_of_function_param, tree_of_function_param, tag_of_unscoped_template_name_handle, parts_of_unscoped_template_name_handle, tree_of_unscoped_template_name_handle, tag_of_unresolved_type_handle, parts_of_unresolved_type_handle, tree_of_unresolved_type_handle, tag_of_type_handle, parts_of_type_handle, tree_of_type_handle, tag_of_operator_name, parts_of_operator_name, tree_of_operator_name, tag_of_bare_function_type, parts_of_bare_function_type, tree_of_bare_function_type, tag_of_unscoped_name, parts_of_unscoped_name, tree_of_unscoped_name, tag_of_nested_name, parts_of_nested_name, tree_of_nested_name}
+use Rattle.demangle_nodes.specs.TreeLeaves.{tree_of_option, tree_of_signed, tree_of_simple_operator_name, tree_of_template_param, tree_of_discriminator, tag_of_resource_name, parts_of_resource_name, tree_of_source_name, tag_of_clone_suffix, parts_of_clone_suffix, tree_of_call_offset, tree_of_function_param, tree_of_unscoped_template_name_handle, tree_of_unresolved_type_handle, tree_of_type_handle, tree_of_operator_name, tree_of_bare_function_type, tree_of_unscoped_name, tree_of_nested_name}
 
 abbrev pub tag_of_mangled_name : MangledName → Tag
 tag_of_mangled_name (of_mangled_name.Encoding _ _) = Tag.MangledNameEncoding

@@ -11,7 +11,8 @@ use crate::leaves::{
 use demangle_vocab::RefQualifier;
 
 impl PrefixHandle {
-    /// The position of the numbered component that this refers to; `None` exactly where it refers to none.
+    /// The position of the numbered component that this refers to; `None` exactly where it refers to none. The original's
+    /// method of this name.
     pub fn back_reference(&self) -> Option<usize>
         ensures { result ≡ reference_of (tree_of_prefix_handle self.now) }
     {
@@ -23,7 +24,8 @@ impl PrefixHandle {
 }
 
 impl UnscopedTemplateNameHandle {
-    /// The position of the numbered component that this refers to; `None` exactly where it refers to none.
+    /// The position of the numbered component that this refers to; `None` exactly where it refers to none. The original's
+    /// method of this name.
     pub fn back_reference(&self) -> Option<usize>
         ensures { result ≡ reference_of (tree_of_unscoped_template_name_handle self.now) }
     {
@@ -35,7 +37,8 @@ impl UnscopedTemplateNameHandle {
 }
 
 impl TemplateTemplateParamHandle {
-    /// The position of the numbered component that this refers to; `None` exactly where it refers to none.
+    /// The position of the numbered component that this refers to; `None` exactly where it refers to none. The original's
+    /// method of this name.
     pub fn back_reference(&self) -> Option<usize>
         ensures { result ≡ reference_of (tree_of_template_template_param_handle self.now) }
     {
@@ -47,7 +50,8 @@ impl TemplateTemplateParamHandle {
 }
 
 impl UnresolvedTypeHandle {
-    /// The position of the numbered component that this refers to; `None` exactly where it refers to none.
+    /// The position of the numbered component that this refers to; `None` exactly where it refers to none. The original's
+    /// method of this name.
     pub fn back_reference(&self) -> Option<usize>
         ensures { result ≡ reference_of (tree_of_unresolved_type_handle self.now) }
     {
@@ -59,7 +63,8 @@ impl UnresolvedTypeHandle {
 }
 
 impl TypeHandle {
-    /// The position of the numbered component that this refers to; `None` exactly where it refers to none.
+    /// The position of the numbered component that this refers to; `None` exactly where it refers to none. The original's
+    /// method of this name.
     pub fn back_reference(&self) -> Option<usize>
         ensures { result ≡ reference_of (tree_of_type_handle self.now) }
     {
@@ -71,7 +76,7 @@ impl TypeHandle {
 }
 
 impl NestedName {
-    /// The qualifiers; `None` exactly for the two explicit-object forms.
+    /// The qualifiers; `None` exactly for the two explicit-object forms. The original's method of this name.
     pub fn cv_qualifiers(&self) -> Option<&CvQualifiers>
         ensures { option_map (λ x. tree_of_cv_qualifiers x.now) result ≡ qualifiers_of (tree_of_nested_name self.now) }
     {
@@ -82,7 +87,7 @@ impl NestedName {
         }
     }
 
-    /// The ref-qualifier; `None` exactly where there is none.
+    /// The ref-qualifier; `None` exactly where there is none. The original's method of this name.
     pub fn ref_qualifier(&self) -> Option<&RefQualifier>
         ensures { option_map (λ x. tree_of_ref_qualifier x.now) result ≡ ref_qualifier_of (tree_of_nested_name self.now) }
     {
@@ -93,7 +98,7 @@ impl NestedName {
         }
     }
 
-    /// Whether this is one of the two explicit-object forms.
+    /// Whether this is one of the two explicit-object forms. The original's method of this name.
     pub fn has_explicit_obj_param(&self) -> bool
         ensures { result ≡ explicit_object_of (tree_of_nested_name self.now) }
     {

@@ -34,7 +34,7 @@ pub enum ArrayType {
     NoDimension(TypeHandle),
 }
 
-/// A vector: its length, and the type of its elements. ABI section 5.1.5.1, `Dv`.
+/// A vector: its length, and the type of its elements. ABI section 5.1.5, `<vector-type>`.
 #[derive(Drop, Debug)]
 pub enum VectorType {
     DimensionNumber(usize, TypeHandle),
@@ -97,7 +97,7 @@ pub enum UnresolvedType {
 }
 
 /// An entry of the substitution table. An `Expression` stands in the second list alone: it is the width of a `_BitInt`
-/// type.
+/// type. ABI section 5.1.10, `<substitution>`.
 #[derive(Drop, Debug)]
 pub enum Substitutable {
     UnscopedTemplateName(UnscopedTemplateName),
@@ -108,7 +108,8 @@ pub enum Substitutable {
     Expression(Box<Expression>),
 }
 
-/// The last identifier of a name, which a constructor, a destructor or a member function takes over from its class.
+/// The last identifier of a name, which a constructor, a destructor or a member function takes over from its class. The
+/// original's type of this name.
 #[derive(Clone, Copy, Debug)]
 pub enum LeafName<'a> {
     SourceName(&'a SourceName),

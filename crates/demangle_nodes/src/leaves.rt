@@ -13,7 +13,7 @@ use demangle_vocab::{
 /// A number of the mangled name, from -(2^63 - 1) to 2^63 - 1. ABI section 5.1.2, `<number>`.
 pub type Number = isize;
 
-/// An entry of the second list of the substitution table, by its position there.
+/// An entry of the second list of the substitution table, by its position there. The original's type of this name.
 #[derive(Clone, Copy, Debug)]
 pub struct NonSubstitution(pub usize);
 
@@ -25,7 +25,7 @@ pub struct SeqId(pub usize);
 #[derive(Clone, Copy, Debug)]
 pub struct TemplateParam(pub usize);
 
-/// Tells local entities of one name apart. ABI section 5.1.6, `<discriminator>`.
+/// Tells local entities of one name apart. ABI section 5.1.7, `<discriminator>`.
 #[derive(Clone, Copy, Debug)]
 pub struct Discriminator(pub usize);
 
@@ -36,14 +36,14 @@ pub struct Identifier {
     pub end: usize,
 }
 
-/// The place of the word after the first `.` of a clone suffix, as compilers append it.
+/// The place of the word after the first `.` of a clone suffix, as compilers append it. The original's type of this name.
 #[derive(Clone, Copy, Debug)]
 pub struct CloneTypeIdentifier {
     pub start: usize,
     pub end: usize,
 }
 
-/// The place of one component of a Java resource, with the escape that ends it.
+/// The place of one component of a Java resource, with the escape that ends it. The original's type of this name.
 #[derive(Clone, Copy, Debug)]
 pub struct ResourceName {
     pub start: usize,
@@ -54,19 +54,19 @@ pub struct ResourceName {
 #[derive(Clone, Copy, Debug)]
 pub struct SourceName(pub Identifier);
 
-/// One ABI tag. ABI section 5.1.4, `<abi-tag>`.
+/// One ABI tag. ABI section 5.1.2, `<abi-tag>`.
 #[derive(Clone, Copy, Debug)]
 pub struct AbiTag(pub SourceName);
 
-/// The ABI tags of a name, in the order that they are written in. ABI section 5.1.4, `<abi-tags>`.
+/// The ABI tags of a name, in the order that they are written in. ABI section 5.1.2, `<abi-tags>`.
 #[derive(Drop, Debug)]
 pub struct AbiTags(pub Vec<AbiTag>);
 
-/// The member whose initializer is the scope of a closure. ABI section 5.1.8, `<data-member-prefix>`.
+/// The member whose initializer is the scope of a closure. ABI section 5.1.7, `<data-member-prefix>`.
 #[derive(Clone, Copy, Debug)]
 pub struct DataMemberPrefix(pub SourceName);
 
-/// What a compiler appends to the name of a copy of a function: a word and numbers.
+/// What a compiler appends to the name of a copy of a function: a word and numbers. The original's type of this name.
 #[derive(Drop, Debug)]
 pub struct CloneSuffix(pub CloneTypeIdentifier, pub Vec<isize>);
 
@@ -107,7 +107,7 @@ pub enum CallOffset {
 }
 
 /// A parameter of the function that is declared: how many scopes lie between, its qualifiers, and its position; `None` is
-/// `this`. ABI section 5.1.6.1, `<function-param>`.
+/// `this`. ABI section 5.1.5.9, `<function-param>`.
 #[derive(Clone, Copy, Debug)]
 pub struct FunctionParam(pub usize, pub CvQualifiers, pub Option<usize>);
 
@@ -126,7 +126,7 @@ pub enum Substitution {
     WellKnown(WellKnownComponent),
 }
 
-/// A reference to a prefix. A back reference names an entry of the table's first list.
+/// A reference to a prefix. A back reference names an entry of the table's first list. ABI section 5.1.2, `<prefix>`.
 #[derive(Clone, Copy, Debug)]
 pub enum PrefixHandle {
     WellKnown(WellKnownComponent),
@@ -134,7 +134,7 @@ pub enum PrefixHandle {
     NonSubstitution(NonSubstitution),
 }
 
-/// A reference to the name of a template outside of a nested name.
+/// A reference to the name of a template outside of a nested name. ABI section 5.1.2, `<unscoped-template-name>`.
 #[derive(Clone, Copy, Debug)]
 pub enum UnscopedTemplateNameHandle {
     WellKnown(WellKnownComponent),
@@ -142,14 +142,14 @@ pub enum UnscopedTemplateNameHandle {
     NonSubstitution(NonSubstitution),
 }
 
-/// A reference to a template template parameter.
+/// A reference to a template template parameter. ABI section 5.1.5.8, `<template-template-param>`.
 #[derive(Clone, Copy, Debug)]
 pub enum TemplateTemplateParamHandle {
     WellKnown(WellKnownComponent),
     BackReference(usize),
 }
 
-/// A reference to a type that is known by a template parameter or a `decltype` alone.
+/// A reference to a type that is known by a template parameter or a `decltype` alone. ABI section 5.1.6, `<unresolved-type>`.
 #[derive(Clone, Copy, Debug)]
 pub enum UnresolvedTypeHandle {
     WellKnown(WellKnownComponent),
@@ -173,11 +173,13 @@ pub enum BuiltinType {
     Extension(SourceName),
 }
 
-/// A builtin type under qualifiers. No reading makes one: a qualified builtin type takes an entry of the table.
+/// A builtin type under qualifiers. No reading makes one: a qualified builtin type takes an entry of the table. The original's
+/// type of this name.
 #[derive(Clone, Copy, Debug)]
 pub struct QualifiedBuiltin(pub CvQualifiers, pub BuiltinType);
 
-/// `_FloatN`, `_FloatNx` and `_BitInt`. A width that is an expression is an entry of the table's second list.
+/// `_FloatN`, `_FloatNx` and `_BitInt`. A width that is an expression is an entry of the table's second list. ABI section
+/// 5.1.5.2, `<builtin-type>`.
 #[derive(Clone, Copy, Debug)]
 pub enum ParametricBuiltinType {
     FloatN(Number),

@@ -1,8 +1,7 @@
-//! The node types of the syntax tree, the plain tree of each, and their equality and copies.
+//! The node types of the syntax tree, the plain tree of each, and their equality.
 #![tactic(auto)]
 
 mod accessors;
-mod clone_leaves;
 mod entries;
 mod leaves;
 mod nodes;

@@ -29,7 +29,7 @@ pub enum Encoding {
     Special(Box<SpecialName>),
 }
 
-/// What runs the constructors or destructors of a file's variables.
+/// What runs the constructors or destructors of a file's variables. The original's type of this name.
 #[cycle(nodes)]
 #[derive(Drop, Debug)]
 pub enum GlobalCtorDtor {
@@ -48,12 +48,12 @@ pub enum Name {
 }
 
 /// The arguments of a template, and its `place`: the index of the `I` before them, which equality leaves out. ABI
-/// section 5.1.5.8, `<template-args>`.
+/// section 5.1.2, `<template-args>`.
 #[cycle(nodes)]
 #[derive(Drop, Debug)]
 pub struct TemplateArgs(pub Vec<TemplateArg>, pub usize);
 
-/// One argument of a template. ABI section 5.1.5.8, `<template-arg>`.
+/// One argument of a template. ABI section 5.1.2, `<template-arg>`.
 #[cycle(nodes)]
 #[derive(Drop, Debug)]
 pub enum TemplateArg {
@@ -63,7 +63,7 @@ pub enum TemplateArg {
     ArgPack(Vec<TemplateArg>),
 }
 
-/// The name of a member in a member access.
+/// The name of a member in a member access. ABI section 5.1.6, `dt` and `pt`.
 #[cycle(nodes)]
 #[derive(Drop, Debug)]
 pub struct MemberName(pub Box<Name>);
@@ -169,7 +169,7 @@ pub enum ExprPrimary {
     External(Box<MangledName>),
 }
 
-/// An entity inside a function, or a string literal of it, where there is no name. ABI section 5.1.6, `<local-name>`.
+/// An entity inside a function, or a string literal of it, where there is no name. ABI section 5.1.7, `<local-name>`.
 #[cycle(nodes)]
 #[derive(Drop, Debug)]
 pub enum LocalName {

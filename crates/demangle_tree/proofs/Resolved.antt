@@ -1,5 +1,5 @@
 -- Following references.
-use Rattle.std.proofs.Common.{◌≡◌, refl, ap, ◌∙◌, sym, ℕ, zero, suc, false, true, ◌-◌, ◌<◌, arith, subst}
+use Rattle.std.proofs.Common.{◌≡◌, refl, ap, ℕ, zero, suc, false, ◌-◌, ◌<◌, arith}
 use Rattle.demangle_core.specs.Core.{Core}
 use Rattle.demangle_core.specs.Table.{Table}
 use Rattle.demangle_tree.specs.Lookups.{Next, answer, nothing, at, after, answer_of, refers, resolve}

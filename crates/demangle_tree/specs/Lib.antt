@@ -1,4 +1,3 @@
 pub mod Lookups
+pub mod Laws
 pub mod LookupsOf
-pub mod View
-pub mod TableOf

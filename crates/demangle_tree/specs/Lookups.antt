@@ -157,6 +157,15 @@ args_of_prefix t c = resolve prefix_args (size N t + size U t) t (args_step c)
 unfoldable pub args_of_type : Table → Core → Option Core
 args_of_type t c = resolve type_args (size N t + size U t) t (args_step c)
 
+-- A node is a prefix or a type, and so are the components that it refers to.
+pub data Sort : Type 0 where
+  as_prefix : Sort
+  as_type : Sort
+
+abbrev pub template_args : Sort → Table → Core → Option Core
+template_args as_prefix = args_of_prefix
+template_args as_type = args_of_type
+
 -- ---- a constructor, a destructor or a conversion: an answer where it is one
 abbrev pub special_node : Tag → (parts : Core) → (steps : List Next) → Next
 special_node Tag.BackReference (ref w k e) steps = at w k

@@ -1,27 +1,9 @@
-//! What the calls of the table promise together.
+//! What the look-ups promise together. Nothing here runs: the function is a law, and its contract is the statement.
 
-ghost use Rattle.std.specs.Prelude.{◌≡◌};
-ghost use Rattle.demangle_tree.specs.TableOf.{table_of};
+ghost use Rattle.demangle_tree.specs.Laws.{LookupsEnd};
 
-use crate::table::SubstitutionTable;
-use demangle_nodes::Substitutable;
-
-/// Two components inserted, one in each list, and given back by a cut to the lengths before: the table is as it was,
-/// whether or not there was memory for them.
-#[tactic(auto, using(demangle_core::proofs::Cuts::cuts))]
-pub fn insert_and_cut_back(
-    subs: &mut SubstitutionTable,
-    numbered: Substitutable,
-    other: Substitutable,
-)
-    ensures { table_of subs.new ≡ table_of subs.old }
-{
-    let lengths = subs.lengths();
-    match subs.insert(numbered) {
-        Ok(_) => match subs.insert_non_substitution(other) {
-            Ok(_) => subs.cut_back(lengths),
-            Err(_) => subs.cut_back(lengths),
-        },
-        Err(_) => subs.cut_back(lengths),
-    }
-}
+/// Where the references of a node and of its table are sound, each look-up ends by itself: after as many turns as the table
+/// has entries there is no reference left to follow, and more turns change nothing. An addition to the original.
+pub fn lookups_end()
+    ensures { LookupsEnd }
+{}

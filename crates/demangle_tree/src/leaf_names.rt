@@ -6,21 +6,21 @@
 ghost use Rattle.std.specs.Prelude.{◌≡◌, ◌+◌, option_map};
 ghost use Rattle.demangle_tree.specs.Lookups.{after, else_next, leaf_name, leaf_step, resolve};
 ghost use Rattle.demangle_tree.specs.LookupsOf.{next_of};
-ghost use Rattle.demangle_core.specs.Core.{N, U};
+ghost use Rattle.demangle_core.specs.Core.{Core, N, U};
 ghost use Rattle.demangle_core.specs.Table.{size};
-ghost use Rattle.demangle_tree.specs.TableOf.{table_of};
+ghost use Rattle.demangle_table.specs.TableOf.{table_of};
 ghost use Rattle.demangle_nodes.specs.TreeLeaves.{tree_of_well_known_component, tree_of_nested_name, tree_of_prefix_handle, tree_of_template_template_param_handle, tree_of_type_handle, tree_of_unqualified_name, tree_of_unresolved_type_handle, tree_of_unscoped_name, tree_of_unscoped_template_name, tree_of_unscoped_template_name_handle, tree_of_non_substitution, tree_of_builtin_type, tree_of_qualified_builtin, tree_of_closure_type_name, tree_of_data_member_prefix};
 ghost use Rattle.demangle_nodes.specs.TreeNodes.{tree_of_name, tree_of_local_name};
 ghost use Rattle.demangle_nodes.specs.TreeEntries.{tree_of_leaf_name, tree_of_prefix, tree_of_class_enum_type, tree_of_type_node, tree_of_substitutable};
 
 use crate::steps::LeafStep;
-use crate::table::SubstitutionTable;
 use demangle_nodes::{
     BuiltinType, ClassEnumType, ClosureTypeName, DataMemberPrefix, LeafName, LocalName, Name,
     NestedName, NonSubstitution, Prefix, PrefixHandle, QualifiedBuiltin, Substitutable,
     TemplateTemplateParamHandle, TypeHandle, TypeNode, UnqualifiedName, UnresolvedTypeHandle,
     UnscopedName, UnscopedTemplateName, UnscopedTemplateNameHandle,
 };
+use demangle_table::SubstitutionTable;
 use demangle_vocab::WellKnownComponent;
 
 fn leaf_of_well_known_component<'a>(node: &'a WellKnownComponent) -> LeafStep<'a>
@@ -269,197 +269,203 @@ fn follow_leaf<'a>(first: LeafStep<'a>, subs: &'a SubstitutionTable) -> Option<L
     step.answer()
 }
 
-/// The leaf name of a name or a type: the last identifier of it, which its constructors and destructors bear.
+/// The leaf name of a name or a type: the last identifier of it, which its constructors and destructors bear. The original's
+/// trait of this name.
 pub trait GetLeafName<'a> {
-    /// The leaf name, found in the components that this refers to where it isn't here; `None` exactly where there is none.
-    fn get_leaf_name(&'a self, subs: &'a SubstitutionTable) -> Option<LeafName<'a>>;
+    /// The tree of what is looked at.
+    ghost tree: { Self → Core };
+
+    /// The leaf name, found in the components that this refers to where it isn't here; `None`
+    /// exactly where there is none, or where the references go round.
+    fn get_leaf_name(&'a self, subs: &'a SubstitutionTable) -> Option<LeafName<'a>>
+        ensures { option_map tree_of_leaf_name result ≡ leaf_name (table_of subs.now) (tree self.now) };
 }
 
 impl<'a> GetLeafName<'a> for Name {
+    ghost tree = { tree_of_name };
+
     #[tactic(auto, unfolding(crate::specs::Lookups::leaf_name))]
-    fn get_leaf_name(&'a self, subs: &'a SubstitutionTable) -> Option<LeafName<'a>>
-        ensures { option_map tree_of_leaf_name result ≡ leaf_name (table_of subs.now) (tree_of_name self.now) }
-    {
+    fn get_leaf_name(&'a self, subs: &'a SubstitutionTable) -> Option<LeafName<'a>> {
         follow_leaf(leaf_of_name(self), subs)
     }
 }
 
 impl<'a> GetLeafName<'a> for NestedName {
+    ghost tree = { tree_of_nested_name };
+
     #[tactic(auto, unfolding(crate::specs::Lookups::leaf_name))]
-    fn get_leaf_name(&'a self, subs: &'a SubstitutionTable) -> Option<LeafName<'a>>
-        ensures { option_map tree_of_leaf_name result ≡ leaf_name (table_of subs.now) (tree_of_nested_name self.now) }
-    {
+    fn get_leaf_name(&'a self, subs: &'a SubstitutionTable) -> Option<LeafName<'a>> {
         follow_leaf(leaf_of_nested_name(self), subs)
     }
 }
 
 impl<'a> GetLeafName<'a> for Prefix {
+    ghost tree = { tree_of_prefix };
+
     #[tactic(auto, unfolding(crate::specs::Lookups::leaf_name))]
-    fn get_leaf_name(&'a self, subs: &'a SubstitutionTable) -> Option<LeafName<'a>>
-        ensures { option_map tree_of_leaf_name result ≡ leaf_name (table_of subs.now) (tree_of_prefix self.now) }
-    {
+    fn get_leaf_name(&'a self, subs: &'a SubstitutionTable) -> Option<LeafName<'a>> {
         follow_leaf(leaf_of_prefix(self), subs)
     }
 }
 
 impl<'a> GetLeafName<'a> for PrefixHandle {
+    ghost tree = { tree_of_prefix_handle };
+
     #[tactic(auto, unfolding(crate::specs::Lookups::leaf_name))]
-    fn get_leaf_name(&'a self, subs: &'a SubstitutionTable) -> Option<LeafName<'a>>
-        ensures { option_map tree_of_leaf_name result ≡ leaf_name (table_of subs.now) (tree_of_prefix_handle self.now) }
-    {
+    fn get_leaf_name(&'a self, subs: &'a SubstitutionTable) -> Option<LeafName<'a>> {
         follow_leaf(leaf_of_prefix_handle(self), subs)
     }
 }
 
 impl<'a> GetLeafName<'a> for TypeHandle {
+    ghost tree = { tree_of_type_handle };
+
     #[tactic(auto, unfolding(crate::specs::Lookups::leaf_name))]
-    fn get_leaf_name(&'a self, subs: &'a SubstitutionTable) -> Option<LeafName<'a>>
-        ensures { option_map tree_of_leaf_name result ≡ leaf_name (table_of subs.now) (tree_of_type_handle self.now) }
-    {
+    fn get_leaf_name(&'a self, subs: &'a SubstitutionTable) -> Option<LeafName<'a>> {
         follow_leaf(leaf_of_type_handle(self), subs)
     }
 }
 
 impl<'a> GetLeafName<'a> for UnscopedTemplateNameHandle {
+    ghost tree = { tree_of_unscoped_template_name_handle };
+
     #[tactic(auto, unfolding(crate::specs::Lookups::leaf_name))]
-    fn get_leaf_name(&'a self, subs: &'a SubstitutionTable) -> Option<LeafName<'a>>
-        ensures { option_map tree_of_leaf_name result ≡ leaf_name (table_of subs.now) (tree_of_unscoped_template_name_handle self.now) }
-    {
+    fn get_leaf_name(&'a self, subs: &'a SubstitutionTable) -> Option<LeafName<'a>> {
         follow_leaf(leaf_of_unscoped_template_name_handle(self), subs)
     }
 }
 
 impl<'a> GetLeafName<'a> for TemplateTemplateParamHandle {
+    ghost tree = { tree_of_template_template_param_handle };
+
     #[tactic(auto, unfolding(crate::specs::Lookups::leaf_name))]
-    fn get_leaf_name(&'a self, subs: &'a SubstitutionTable) -> Option<LeafName<'a>>
-        ensures { option_map tree_of_leaf_name result ≡ leaf_name (table_of subs.now) (tree_of_template_template_param_handle self.now) }
-    {
+    fn get_leaf_name(&'a self, subs: &'a SubstitutionTable) -> Option<LeafName<'a>> {
         follow_leaf(leaf_of_template_template_param_handle(self), subs)
     }
 }
 
 impl<'a> GetLeafName<'a> for UnresolvedTypeHandle {
+    ghost tree = { tree_of_unresolved_type_handle };
+
     #[tactic(auto, unfolding(crate::specs::Lookups::leaf_name))]
-    fn get_leaf_name(&'a self, subs: &'a SubstitutionTable) -> Option<LeafName<'a>>
-        ensures { option_map tree_of_leaf_name result ≡ leaf_name (table_of subs.now) (tree_of_unresolved_type_handle self.now) }
-    {
+    fn get_leaf_name(&'a self, subs: &'a SubstitutionTable) -> Option<LeafName<'a>> {
         follow_leaf(leaf_of_unresolved_type_handle(self), subs)
     }
 }
 
 impl<'a> GetLeafName<'a> for UnscopedName {
+    ghost tree = { tree_of_unscoped_name };
+
     #[tactic(auto, unfolding(crate::specs::Lookups::leaf_name))]
-    fn get_leaf_name(&'a self, subs: &'a SubstitutionTable) -> Option<LeafName<'a>>
-        ensures { option_map tree_of_leaf_name result ≡ leaf_name (table_of subs.now) (tree_of_unscoped_name self.now) }
-    {
+    fn get_leaf_name(&'a self, subs: &'a SubstitutionTable) -> Option<LeafName<'a>> {
         follow_leaf(leaf_of_unscoped_name(self), subs)
     }
 }
 
 impl<'a> GetLeafName<'a> for UnscopedTemplateName {
+    ghost tree = { tree_of_unscoped_template_name };
+
     #[tactic(auto, unfolding(crate::specs::Lookups::leaf_name))]
-    fn get_leaf_name(&'a self, subs: &'a SubstitutionTable) -> Option<LeafName<'a>>
-        ensures { option_map tree_of_leaf_name result ≡ leaf_name (table_of subs.now) (tree_of_unscoped_template_name self.now) }
-    {
+    fn get_leaf_name(&'a self, subs: &'a SubstitutionTable) -> Option<LeafName<'a>> {
         follow_leaf(leaf_of_unscoped_template_name(self), subs)
     }
 }
 
 impl<'a> GetLeafName<'a> for UnqualifiedName {
+    ghost tree = { tree_of_unqualified_name };
+
     #[tactic(auto, unfolding(crate::specs::Lookups::leaf_name))]
-    fn get_leaf_name(&'a self, subs: &'a SubstitutionTable) -> Option<LeafName<'a>>
-        ensures { option_map tree_of_leaf_name result ≡ leaf_name (table_of subs.now) (tree_of_unqualified_name self.now) }
-    {
+    fn get_leaf_name(&'a self, subs: &'a SubstitutionTable) -> Option<LeafName<'a>> {
         follow_leaf(leaf_of_unqualified_name(self), subs)
     }
 }
 
 impl<'a> GetLeafName<'a> for TypeNode {
+    ghost tree = { tree_of_type_node };
+
     #[tactic(auto, unfolding(crate::specs::Lookups::leaf_name))]
-    fn get_leaf_name(&'a self, subs: &'a SubstitutionTable) -> Option<LeafName<'a>>
-        ensures { option_map tree_of_leaf_name result ≡ leaf_name (table_of subs.now) (tree_of_type_node self.now) }
-    {
+    fn get_leaf_name(&'a self, subs: &'a SubstitutionTable) -> Option<LeafName<'a>> {
         follow_leaf(leaf_of_type_node(self), subs)
     }
 }
 
 impl<'a> GetLeafName<'a> for ClassEnumType {
+    ghost tree = { tree_of_class_enum_type };
+
     #[tactic(auto, unfolding(crate::specs::Lookups::leaf_name))]
-    fn get_leaf_name(&'a self, subs: &'a SubstitutionTable) -> Option<LeafName<'a>>
-        ensures { option_map tree_of_leaf_name result ≡ leaf_name (table_of subs.now) (tree_of_class_enum_type self.now) }
-    {
+    fn get_leaf_name(&'a self, subs: &'a SubstitutionTable) -> Option<LeafName<'a>> {
         follow_leaf(leaf_of_class_enum_type(self), subs)
     }
 }
 
 impl<'a> GetLeafName<'a> for LocalName {
+    ghost tree = { tree_of_local_name };
+
     #[tactic(auto, unfolding(crate::specs::Lookups::leaf_name))]
-    fn get_leaf_name(&'a self, subs: &'a SubstitutionTable) -> Option<LeafName<'a>>
-        ensures { option_map tree_of_leaf_name result ≡ leaf_name (table_of subs.now) (tree_of_local_name self.now) }
-    {
+    fn get_leaf_name(&'a self, subs: &'a SubstitutionTable) -> Option<LeafName<'a>> {
         follow_leaf(leaf_of_local_name(self), subs)
     }
 }
 
 impl<'a> GetLeafName<'a> for WellKnownComponent {
+    ghost tree = { tree_of_well_known_component };
+
     #[tactic(auto, unfolding(crate::specs::Lookups::leaf_name))]
-    fn get_leaf_name(&'a self, subs: &'a SubstitutionTable) -> Option<LeafName<'a>>
-        ensures { option_map tree_of_leaf_name result ≡ leaf_name (table_of subs.now) (tree_of_well_known_component self.now) }
-    {
+    fn get_leaf_name(&'a self, subs: &'a SubstitutionTable) -> Option<LeafName<'a>> {
         follow_leaf(leaf_of_well_known_component(self), subs)
     }
 }
 
 impl<'a> GetLeafName<'a> for Substitutable {
+    ghost tree = { tree_of_substitutable };
+
     #[tactic(auto, unfolding(crate::specs::Lookups::leaf_name))]
-    fn get_leaf_name(&'a self, subs: &'a SubstitutionTable) -> Option<LeafName<'a>>
-        ensures { option_map tree_of_leaf_name result ≡ leaf_name (table_of subs.now) (tree_of_substitutable self.now) }
-    {
+    fn get_leaf_name(&'a self, subs: &'a SubstitutionTable) -> Option<LeafName<'a>> {
         follow_leaf(leaf_of_substitutable(self), subs)
     }
 }
 
 impl<'a> GetLeafName<'a> for NonSubstitution {
+    ghost tree = { tree_of_non_substitution };
+
     #[tactic(auto, unfolding(crate::specs::Lookups::leaf_name))]
-    fn get_leaf_name(&'a self, subs: &'a SubstitutionTable) -> Option<LeafName<'a>>
-        ensures { option_map tree_of_leaf_name result ≡ leaf_name (table_of subs.now) (tree_of_non_substitution self.now) }
-    {
+    fn get_leaf_name(&'a self, subs: &'a SubstitutionTable) -> Option<LeafName<'a>> {
         follow_leaf(leaf_of_non_substitution(self), subs)
     }
 }
 
 impl<'a> GetLeafName<'a> for BuiltinType {
+    ghost tree = { tree_of_builtin_type };
+
     #[tactic(auto, unfolding(crate::specs::Lookups::leaf_name))]
-    fn get_leaf_name(&'a self, subs: &'a SubstitutionTable) -> Option<LeafName<'a>>
-        ensures { option_map tree_of_leaf_name result ≡ leaf_name (table_of subs.now) (tree_of_builtin_type self.now) }
-    {
+    fn get_leaf_name(&'a self, subs: &'a SubstitutionTable) -> Option<LeafName<'a>> {
         follow_leaf(leaf_of_builtin_type(self), subs)
     }
 }
 
 impl<'a> GetLeafName<'a> for QualifiedBuiltin {
+    ghost tree = { tree_of_qualified_builtin };
+
     #[tactic(auto, unfolding(crate::specs::Lookups::leaf_name))]
-    fn get_leaf_name(&'a self, subs: &'a SubstitutionTable) -> Option<LeafName<'a>>
-        ensures { option_map tree_of_leaf_name result ≡ leaf_name (table_of subs.now) (tree_of_qualified_builtin self.now) }
-    {
+    fn get_leaf_name(&'a self, subs: &'a SubstitutionTable) -> Option<LeafName<'a>> {
         follow_leaf(leaf_of_qualified_builtin(self), subs)
     }
 }
 
 impl<'a> GetLeafName<'a> for ClosureTypeName {
+    ghost tree = { tree_of_closure_type_name };
+
     #[tactic(auto, unfolding(crate::specs::Lookups::leaf_name))]
-    fn get_leaf_name(&'a self, subs: &'a SubstitutionTable) -> Option<LeafName<'a>>
-        ensures { option_map tree_of_leaf_name result ≡ leaf_name (table_of subs.now) (tree_of_closure_type_name self.now) }
-    {
+    fn get_leaf_name(&'a self, subs: &'a SubstitutionTable) -> Option<LeafName<'a>> {
         follow_leaf(leaf_of_closure_type_name(self), subs)
     }
 }
 
 impl<'a> GetLeafName<'a> for DataMemberPrefix {
+    ghost tree = { tree_of_data_member_prefix };
+
     #[tactic(auto, unfolding(crate::specs::Lookups::leaf_name))]
-    fn get_leaf_name(&'a self, subs: &'a SubstitutionTable) -> Option<LeafName<'a>>
-        ensures { option_map tree_of_leaf_name result ≡ leaf_name (table_of subs.now) (tree_of_data_member_prefix self.now) }
-    {
+    fn get_leaf_name(&'a self, subs: &'a SubstitutionTable) -> Option<LeafName<'a>> {
         follow_leaf(leaf_of_data_member_prefix(self), subs)
     }
 }

@@ -5,7 +5,6 @@ mod laws;
 mod leaf_names;
 mod special_names;
 mod steps;
-mod table;
 mod template_args;
 
 pub use demangle_nodes::{
@@ -22,8 +21,8 @@ pub use demangle_nodes::{
     UnresolvedTypeHandle, UnscopedName, UnscopedTemplateName, UnscopedTemplateNameHandle, VOffset,
     VectorType,
 };
-pub use laws::insert_and_cut_back;
+pub use demangle_table::{CopyComponent, SubstitutionTable, insert_and_cut_back};
+pub use laws::lookups_end;
 pub use leaf_names::GetLeafName;
 pub use special_names::IsCtorDtorConversion;
-pub use table::SubstitutionTable;
 pub use template_args::GetTemplateArgs;

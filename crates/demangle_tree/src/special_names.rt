@@ -1,21 +1,21 @@
 //! Whether a name is that of a constructor, a destructor or a conversion, which have no return type in their signature.
 
 ghost use Rattle.std.specs.Prelude.{◌≡◌, ◌+◌, is_some};
-ghost use Rattle.demangle_core.specs.Core.{N, U};
+ghost use Rattle.demangle_core.specs.Core.{Core, N, U};
 ghost use Rattle.demangle_core.specs.Table.{size};
 ghost use Rattle.demangle_tree.specs.Lookups.{after, is_special, resolve, special_step};
 ghost use Rattle.demangle_tree.specs.LookupsOf.{special_next};
-ghost use Rattle.demangle_tree.specs.TableOf.{table_of};
+ghost use Rattle.demangle_table.specs.TableOf.{table_of};
 ghost use Rattle.demangle_nodes.specs.TreeLeaves.{tree_of_nested_name, tree_of_prefix_handle, tree_of_unqualified_name, tree_of_unscoped_name};
 ghost use Rattle.demangle_nodes.specs.TreeNodes.{tree_of_name};
 ghost use Rattle.demangle_nodes.specs.TreeEntries.{tree_of_prefix, tree_of_substitutable};
 
 use crate::steps::SpecialStep;
-use crate::table::SubstitutionTable;
 use demangle_nodes::{
     Name, NestedName, OperatorName, Prefix, PrefixHandle, Substitutable, UnqualifiedName,
     UnscopedName,
 };
+use demangle_table::SubstitutionTable;
 
 fn special_of_prefix_handle(node: &PrefixHandle) -> SpecialStep
     ensures { special_next result ≡ special_step (tree_of_prefix_handle node.now) }
@@ -126,71 +126,75 @@ fn follow_special(first: SpecialStep, subs: &SubstitutionTable) -> bool
     step.answer()
 }
 
-/// Whether a name is that of a constructor, a destructor or a conversion.
+/// Whether a name is that of a constructor, a destructor or a conversion. The original's trait of this name.
 pub trait IsCtorDtorConversion {
+    /// The tree of what is looked at.
+    ghost tree: { Self → Core };
+
     /// Whether it is one; where it refers to a component, whether that is.
-    fn is_ctor_dtor_conversion(&self, subs: &SubstitutionTable) -> bool;
+    fn is_ctor_dtor_conversion(&self, subs: &SubstitutionTable) -> bool
+        ensures { result ≡ is_special (table_of subs.now) (tree self.now) };
 }
 
 impl IsCtorDtorConversion for Name {
+    ghost tree = { tree_of_name };
+
     #[tactic(auto, unfolding(crate::specs::Lookups::is_special))]
-    fn is_ctor_dtor_conversion(&self, subs: &SubstitutionTable) -> bool
-        ensures { result ≡ is_special (table_of subs.now) (tree_of_name self.now) }
-    {
+    fn is_ctor_dtor_conversion(&self, subs: &SubstitutionTable) -> bool {
         follow_special(special_of_name(self), subs)
     }
 }
 
 impl IsCtorDtorConversion for NestedName {
+    ghost tree = { tree_of_nested_name };
+
     #[tactic(auto, unfolding(crate::specs::Lookups::is_special))]
-    fn is_ctor_dtor_conversion(&self, subs: &SubstitutionTable) -> bool
-        ensures { result ≡ is_special (table_of subs.now) (tree_of_nested_name self.now) }
-    {
+    fn is_ctor_dtor_conversion(&self, subs: &SubstitutionTable) -> bool {
         follow_special(special_of_nested_name(self), subs)
     }
 }
 
 impl IsCtorDtorConversion for Prefix {
+    ghost tree = { tree_of_prefix };
+
     #[tactic(auto, unfolding(crate::specs::Lookups::is_special))]
-    fn is_ctor_dtor_conversion(&self, subs: &SubstitutionTable) -> bool
-        ensures { result ≡ is_special (table_of subs.now) (tree_of_prefix self.now) }
-    {
+    fn is_ctor_dtor_conversion(&self, subs: &SubstitutionTable) -> bool {
         follow_special(special_of_prefix(self), subs)
     }
 }
 
 impl IsCtorDtorConversion for PrefixHandle {
+    ghost tree = { tree_of_prefix_handle };
+
     #[tactic(auto, unfolding(crate::specs::Lookups::is_special))]
-    fn is_ctor_dtor_conversion(&self, subs: &SubstitutionTable) -> bool
-        ensures { result ≡ is_special (table_of subs.now) (tree_of_prefix_handle self.now) }
-    {
+    fn is_ctor_dtor_conversion(&self, subs: &SubstitutionTable) -> bool {
         follow_special(special_of_prefix_handle(self), subs)
     }
 }
 
 impl IsCtorDtorConversion for UnscopedName {
+    ghost tree = { tree_of_unscoped_name };
+
     #[tactic(auto, unfolding(crate::specs::Lookups::is_special))]
-    fn is_ctor_dtor_conversion(&self, subs: &SubstitutionTable) -> bool
-        ensures { result ≡ is_special (table_of subs.now) (tree_of_unscoped_name self.now) }
-    {
+    fn is_ctor_dtor_conversion(&self, subs: &SubstitutionTable) -> bool {
         follow_special(special_of_unscoped_name(self), subs)
     }
 }
 
 impl IsCtorDtorConversion for UnqualifiedName {
+    ghost tree = { tree_of_unqualified_name };
+
     #[tactic(auto, unfolding(crate::specs::Lookups::is_special))]
-    fn is_ctor_dtor_conversion(&self, subs: &SubstitutionTable) -> bool
-        ensures { result ≡ is_special (table_of subs.now) (tree_of_unqualified_name self.now) }
-    {
+    fn is_ctor_dtor_conversion(&self, subs: &SubstitutionTable) -> bool {
         follow_special(special_of_unqualified_name(self), subs)
     }
 }
 
 impl IsCtorDtorConversion for Substitutable {
+    ghost tree = { tree_of_substitutable };
+
     #[tactic(auto, unfolding(crate::specs::Lookups::is_special))]
-    fn is_ctor_dtor_conversion(&self, subs: &SubstitutionTable) -> bool
-        ensures { result ≡ is_special (table_of subs.now) (tree_of_substitutable self.now) }
-    {
+    fn is_ctor_dtor_conversion(&self, subs: &SubstitutionTable) -> bool {
         follow_special(special_of_substitutable(self), subs)
     }
 }

@@ -1,21 +1,21 @@
 //! The template arguments of a name or a type.
 
 ghost use Rattle.std.specs.Prelude.{◌≡◌, ◌+◌, option_map};
-ghost use Rattle.demangle_core.specs.Core.{N, U};
+ghost use Rattle.demangle_core.specs.Core.{Core, N, U};
 ghost use Rattle.demangle_core.specs.Table.{size};
-ghost use Rattle.demangle_tree.specs.Lookups.{after, args_of_prefix, args_of_type, args_step, prefix_args, resolve, type_args};
+ghost use Rattle.demangle_tree.specs.Lookups.{Sort, after, args_step, as_prefix, as_type, prefix_args, resolve, template_args, type_args};
 ghost use Rattle.demangle_tree.specs.LookupsOf.{args_next};
-ghost use Rattle.demangle_tree.specs.TableOf.{table_of};
+ghost use Rattle.demangle_table.specs.TableOf.{table_of};
 ghost use Rattle.demangle_nodes.specs.TreeLeaves.{tree_of_nested_name, tree_of_prefix_handle, tree_of_type_handle};
 ghost use Rattle.demangle_nodes.specs.TreeNodes.{tree_of_local_name, tree_of_name, tree_of_template_args};
 ghost use Rattle.demangle_nodes.specs.TreeEntries.{tree_of_prefix, tree_of_substitutable, tree_of_type_node};
 
 use crate::steps::ArgsStep;
-use crate::table::SubstitutionTable;
 use demangle_nodes::{
     LocalName, Name, NestedName, Prefix, PrefixHandle, Substitutable, TemplateArgs, TypeHandle,
     TypeNode,
 };
+use demangle_table::SubstitutionTable;
 
 fn args_of_prefix_handle<'a>(node: &'a PrefixHandle) -> ArgsStep<'a>
     ensures { args_next result ≡ args_step (tree_of_prefix_handle node.now) }
@@ -174,71 +174,92 @@ fn follow_type<'a>(first: ArgsStep<'a>, subs: &'a SubstitutionTable) -> Option<&
     step.answer()
 }
 
-/// The template arguments of a name or a type.
+/// The template arguments of a name or a type. The original's trait of this name.
 pub trait GetTemplateArgs {
-    /// The arguments, found in the components that this refers to where they aren't here; `None` exactly where there are none.
-    fn get_template_args<'a>(&'a self, subs: &'a SubstitutionTable) -> Option<&'a TemplateArgs>;
+    /// The tree of what is looked at.
+    ghost tree: { Self → Core };
+    /// Whether it is a prefix or a type.
+    ghost sort: { Sort };
+
+    /// The arguments, found in the components that this refers to where they aren't here; `None`
+    /// exactly where there are none, or where the references go round.
+    fn get_template_args<'a>(&'a self, subs: &'a SubstitutionTable) -> Option<&'a TemplateArgs>
+        ensures { option_map (λ x. tree_of_template_args x.now) result ≡ template_args sort (table_of subs.now) (tree self.now) };
 }
 
 impl GetTemplateArgs for Name {
+    ghost tree = { tree_of_name };
+
+    ghost sort = { as_prefix };
+
     #[tactic(auto, unfolding(crate::specs::Lookups::args_of_prefix))]
-    fn get_template_args<'a>(&'a self, subs: &'a SubstitutionTable) -> Option<&'a TemplateArgs>
-        ensures { option_map (λ x. tree_of_template_args x.now) result ≡ args_of_prefix (table_of subs.now) (tree_of_name self.now) }
-    {
+    fn get_template_args<'a>(&'a self, subs: &'a SubstitutionTable) -> Option<&'a TemplateArgs> {
         follow_prefix(args_of_name(self), subs)
     }
 }
 
 impl GetTemplateArgs for NestedName {
+    ghost tree = { tree_of_nested_name };
+
+    ghost sort = { as_prefix };
+
     #[tactic(auto, unfolding(crate::specs::Lookups::args_of_prefix))]
-    fn get_template_args<'a>(&'a self, subs: &'a SubstitutionTable) -> Option<&'a TemplateArgs>
-        ensures { option_map (λ x. tree_of_template_args x.now) result ≡ args_of_prefix (table_of subs.now) (tree_of_nested_name self.now) }
-    {
+    fn get_template_args<'a>(&'a self, subs: &'a SubstitutionTable) -> Option<&'a TemplateArgs> {
         follow_prefix(args_of_nested_name(self), subs)
     }
 }
 
 impl GetTemplateArgs for Prefix {
+    ghost tree = { tree_of_prefix };
+
+    ghost sort = { as_prefix };
+
     #[tactic(auto, unfolding(crate::specs::Lookups::args_of_prefix))]
-    fn get_template_args<'a>(&'a self, subs: &'a SubstitutionTable) -> Option<&'a TemplateArgs>
-        ensures { option_map (λ x. tree_of_template_args x.now) result ≡ args_of_prefix (table_of subs.now) (tree_of_prefix self.now) }
-    {
+    fn get_template_args<'a>(&'a self, subs: &'a SubstitutionTable) -> Option<&'a TemplateArgs> {
         follow_prefix(args_of_prefix(self), subs)
     }
 }
 
 impl GetTemplateArgs for PrefixHandle {
+    ghost tree = { tree_of_prefix_handle };
+
+    ghost sort = { as_prefix };
+
     #[tactic(auto, unfolding(crate::specs::Lookups::args_of_prefix))]
-    fn get_template_args<'a>(&'a self, subs: &'a SubstitutionTable) -> Option<&'a TemplateArgs>
-        ensures { option_map (λ x. tree_of_template_args x.now) result ≡ args_of_prefix (table_of subs.now) (tree_of_prefix_handle self.now) }
-    {
+    fn get_template_args<'a>(&'a self, subs: &'a SubstitutionTable) -> Option<&'a TemplateArgs> {
         follow_prefix(args_of_prefix_handle(self), subs)
     }
 }
 
 impl GetTemplateArgs for LocalName {
+    ghost tree = { tree_of_local_name };
+
+    ghost sort = { as_prefix };
+
     #[tactic(auto, unfolding(crate::specs::Lookups::args_of_prefix))]
-    fn get_template_args<'a>(&'a self, subs: &'a SubstitutionTable) -> Option<&'a TemplateArgs>
-        ensures { option_map (λ x. tree_of_template_args x.now) result ≡ args_of_prefix (table_of subs.now) (tree_of_local_name self.now) }
-    {
+    fn get_template_args<'a>(&'a self, subs: &'a SubstitutionTable) -> Option<&'a TemplateArgs> {
         follow_prefix(args_of_local_name(self), subs)
     }
 }
 
 impl GetTemplateArgs for TypeHandle {
+    ghost tree = { tree_of_type_handle };
+
+    ghost sort = { as_type };
+
     #[tactic(auto, unfolding(crate::specs::Lookups::args_of_type))]
-    fn get_template_args<'a>(&'a self, subs: &'a SubstitutionTable) -> Option<&'a TemplateArgs>
-        ensures { option_map (λ x. tree_of_template_args x.now) result ≡ args_of_type (table_of subs.now) (tree_of_type_handle self.now) }
-    {
+    fn get_template_args<'a>(&'a self, subs: &'a SubstitutionTable) -> Option<&'a TemplateArgs> {
         follow_type(args_of_type_handle(self), subs)
     }
 }
 
 impl GetTemplateArgs for TypeNode {
+    ghost tree = { tree_of_type_node };
+
+    ghost sort = { as_type };
+
     #[tactic(auto, unfolding(crate::specs::Lookups::args_of_type))]
-    fn get_template_args<'a>(&'a self, subs: &'a SubstitutionTable) -> Option<&'a TemplateArgs>
-        ensures { option_map (λ x. tree_of_template_args x.now) result ≡ args_of_type (table_of subs.now) (tree_of_type_node self.now) }
-    {
+    fn get_template_args<'a>(&'a self, subs: &'a SubstitutionTable) -> Option<&'a TemplateArgs> {
         follow_type(args_of_type_node(self), subs)
     }
 }

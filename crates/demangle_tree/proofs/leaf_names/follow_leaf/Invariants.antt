@@ -3,7 +3,7 @@ use Rattle.demangle_core.specs.Core.{N, U}
 use Rattle.demangle_core.specs.Table.{size}
 use Rattle.demangle_tree.specs.Lookups.{leaf_step, resolve}
 use Rattle.demangle_tree.specs.LookupsOf.{next_of}
-use Rattle.demangle_tree.specs.TableOf.{table_of}
+use Rattle.demangle_table.specs.TableOf.{table_of}
 use Rattle.demangle_tree.proofs.leaf_names.follow_leaf.Given as goal
 
 abbrev pub invariant-loop-more : goal.invariant-loop-more

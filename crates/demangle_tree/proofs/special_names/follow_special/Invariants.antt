@@ -3,7 +3,7 @@ use Rattle.demangle_core.specs.Core.{N, U}
 use Rattle.demangle_core.specs.Table.{size}
 use Rattle.demangle_tree.specs.Lookups.{special_step, resolve}
 use Rattle.demangle_tree.specs.LookupsOf.{special_next}
-use Rattle.demangle_tree.specs.TableOf.{table_of}
+use Rattle.demangle_table.specs.TableOf.{table_of}
 use Rattle.demangle_tree.proofs.special_names.follow_special.Given as goal
 
 abbrev pub invariant-loop-more : goal.invariant-loop-more

@@ -3,7 +3,7 @@ use Rattle.demangle_core.specs.Core.{N, U}
 use Rattle.demangle_core.specs.Table.{size}
 use Rattle.demangle_tree.specs.Lookups.{type_args, resolve}
 use Rattle.demangle_tree.specs.LookupsOf.{args_next}
-use Rattle.demangle_tree.specs.TableOf.{table_of}
+use Rattle.demangle_table.specs.TableOf.{table_of}
 use Rattle.demangle_tree.proofs.template_args.follow_type.Given as goal
 
 abbrev pub invariant-loop-more : goal.invariant-loop-more

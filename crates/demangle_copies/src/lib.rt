@@ -1,0 +1,11 @@
+//! Copies of the nodes of the syntax tree and of the substitution table.
+#![tactic(auto)]
+
+mod entries;
+mod leaves;
+mod nodes;
+mod recursion;
+mod table;
+mod try_clone;
+
+pub use try_clone::TryClone;
