@@ -1,8 +1,8 @@
 //! Nodes that the tests are made of. They promise nothing, so a test knows of them what it finds when it runs.
 
 use demangle_tree::{
-    AbiTags, BuiltinType, CtorDtorName, CvQualifiers, Identifier, LeafName, OperatorName, Prefix,
-    PrefixHandle, SourceName, Substitutable, SubstitutionTable, TemplateArgs, TypeHandle, TypeNode,
+    AbiTags, BuiltinType, CtorDtorName, Identifier, LeafName, OperatorName, Prefix, PrefixHandle,
+    SourceName, Substitutable, SubstitutionTable, TemplateArgs, TypeHandle, TypeNode,
     UnqualifiedName,
 };
 use demangle_vocab::{SimpleOperatorName, StandardBuiltinType};
@@ -50,13 +50,16 @@ pub fn is_class(leaf: Option<LeafName<'_>>) -> bool {
     }
 }
 
+/// The position that an insertion answers; `None` for want of memory.
+pub fn position(inserted: Result<usize, Substitutable>) -> Option<usize> {
+    inserted.ok()
+}
+
 /// A table whose entry 0 is `class`.
 pub fn table_of_class(alloc: Global) -> Option<SubstitutionTable> {
     let mut subs = SubstitutionTable::new(alloc);
-    match subs.insert(class(alloc)) {
-        Ok(_) => Some(subs),
-        Err(_) => None,
-    }
+    position(subs.insert(class(alloc)))?;
+    Some(subs)
 }
 
 pub fn constructor(alloc: Global) -> UnqualifiedName {
@@ -93,13 +96,5 @@ pub fn place(args: Option<&TemplateArgs>) -> Option<usize> {
     match args {
         Some(args) => Some(args.1),
         None => None,
-    }
-}
-
-pub fn no_qualifiers() -> CvQualifiers {
-    CvQualifiers {
-        restrict: false,
-        volatile: false,
-        const_: false,
     }
 }

@@ -1,7 +1,11 @@
 //! The table's calls.
 
-use crate::samples::{class, int, is_pointer_to_int, is_type_pointer_to_int, pointer_to_int};
+use crate::nodes::{is_copied, listed};
+use crate::samples::{
+    class, int, is_pointer_to_int, is_type_pointer_to_int, pointer_to_int, position,
+};
 use demangle_tree::{Substitutable, SubstitutionTable, TypeHandle, insert_and_cut_back};
+use std::alloc::Global;
 
 fn count_pointers(subs: &SubstitutionTable) -> usize {
     let mut count: usize = 0;
@@ -33,59 +37,120 @@ fn is_other_pointer(subs: &SubstitutionTable, idx: usize) -> bool {
     idx < subs.lengths().1 && is_pointer_to_int(subs.non_substitution(idx))
 }
 
-// Two numbered components, a class and a pointer.
-fn two_entries(rt: &HostRuntime) -> Option<SubstitutionTable> {
-    let alloc = rt.alloc();
-    let mut subs = SubstitutionTable::new(alloc);
-    if subs.insert(class(alloc)).is_err() || subs.insert(pointer_to_int()).is_err() {
-        return None;
+// Whether what comes out is the pointer; `None` where nothing does.
+fn pop_pointer(subs: &mut SubstitutionTable) -> Option<bool> {
+    match subs.pop() {
+        Some(entry) => Some(is_pointer_to_int(&entry)),
+        None => None,
     }
+}
+
+// Two numbered components, a class and a pointer.
+fn two_entries(alloc: Global) -> Option<SubstitutionTable> {
+    let mut subs = SubstitutionTable::new(alloc);
+    position(subs.insert(class(alloc)))?;
+    position(subs.insert(pointer_to_int()))?;
     Some(subs)
 }
 
 // One component in each list.
-fn one_each(rt: &HostRuntime) -> Option<SubstitutionTable> {
-    let mut subs = SubstitutionTable::new(rt.alloc());
-    if subs.insert(pointer_to_int()).is_err()
-        || subs.insert_non_substitution(pointer_to_int()).is_err()
-    {
-        return None;
-    }
+fn one_each(alloc: Global) -> Option<SubstitutionTable> {
+    let mut subs = SubstitutionTable::new(alloc);
+    position(subs.insert(pointer_to_int()))?;
+    position(subs.insert_non_substitution(pointer_to_int()))?;
     Some(subs)
 }
 
-#[test]
-fn a_new_table_is_empty(rt: HostRuntime) {
-    let subs = SubstitutionTable::new(rt.alloc());
-    assert!(rt; subs.len() == 0);
-    assert!(rt; !subs.contains(0));
-    assert!(rt; subs.get(0).is_none());
-    assert!(rt; subs.lengths() == (0, 0));
+// The same, inserted the other way round.
+fn one_each_the_other_way(alloc: Global) -> Option<SubstitutionTable> {
+    let mut subs = SubstitutionTable::new(alloc);
+    position(subs.insert_non_substitution(pointer_to_int()))?;
+    position(subs.insert(pointer_to_int()))?;
+    Some(subs)
+}
+
+// The steps of the worked table, each of which answers whether it went as it should.
+fn is_empty(subs: &SubstitutionTable) -> bool {
+    subs.len() == 0 && !subs.contains(0) && subs.get(0).is_none() && subs.lengths() == (0, 0)
+}
+
+fn inserts_the_pointer(subs: &mut SubstitutionTable) -> bool {
+    position(subs.insert(pointer_to_int())) == Some(0)
+}
+
+fn holds_the_pointer(subs: &SubstitutionTable) -> bool {
+    subs.contains(0)
+        && !subs.contains(1)
+        && is_some_pointer(subs.get(0))
+        && finds_pointer(subs, &TypeHandle::BackReference(0))
+}
+
+fn inserts_another(subs: &mut SubstitutionTable) -> bool {
+    position(subs.insert_non_substitution(pointer_to_int())) == Some(0)
+}
+
+fn holds_another(subs: &SubstitutionTable) -> bool {
+    subs.lengths() == (1, 1)
+        && is_some_pointer(subs.get_non_substitution(0))
+        && is_other_pointer(subs, 0)
+}
+
+fn cuts_the_other(subs: &mut SubstitutionTable) -> bool {
+    subs.cut_back((1, 0));
+    subs.get_non_substitution(0).is_none() && subs.lengths() == (1, 0)
+}
+
+fn gives_the_pointer_back(subs: &mut SubstitutionTable) -> bool {
+    pop_pointer(subs) == Some(true)
+}
+
+fn has_no_more(subs: &mut SubstitutionTable) -> bool {
+    pop_pointer(subs) == None
+}
+
+fn lists_and_copies(alloc: Global) -> bool {
+    match listed(alloc, Ok(pointer_to_int())) {
+        Ok(list) => {
+            let subs = SubstitutionTable::from_list(alloc, list);
+            subs.len() == 1 && count_pointers(&subs) == 1 && is_copied(alloc, Ok(subs))
+        }
+        Err(_) => false,
+    }
 }
 
 #[test]
-fn the_first_component_is_number_0(rt: HostRuntime) {
-    let mut subs = SubstitutionTable::new(rt.alloc());
-    assert!(rt; matches!(subs.insert(pointer_to_int()), Ok(0)));
-    assert!(rt; subs.contains(0));
-    assert!(rt; !subs.contains(1));
-    assert!(rt; subs.len() == 1);
-    assert!(rt; is_some_pointer(subs.get(0)));
+fn the_worked_table_step_by_step(rt: HostRuntime) {
+    let alloc = rt.alloc();
+    let mut subs = SubstitutionTable::new(alloc);
+    let steps = [
+        ("new", is_empty(&subs)),
+        ("insert", inserts_the_pointer(&mut subs)),
+        ("contains, get and get_type", holds_the_pointer(&subs)),
+        ("insert_non_substitution", inserts_another(&mut subs)),
+        ("lengths and non_substitution", holds_another(&subs)),
+        ("cut_back", cuts_the_other(&mut subs)),
+        ("pop", gives_the_pointer_back(&mut subs)),
+        ("pop of an empty table", has_no_more(&mut subs)),
+        ("from_list, iter and try_clone", lists_and_copies(alloc)),
+    ];
+    for (step, went_well) in steps {
+        assert!(rt; went_well, "{step}");
+    }
 }
 
 #[test]
 fn the_second_component_is_number_1(rt: HostRuntime) {
     let alloc = rt.alloc();
     let mut subs = SubstitutionTable::new(alloc);
-    assert!(rt; matches!(subs.insert(class(alloc)), Ok(0)));
-    assert!(rt; matches!(subs.insert(pointer_to_int()), Ok(1)));
+    assert!(rt; position(subs.insert(class(alloc))) == Some(0));
+    assert!(rt; position(subs.insert(pointer_to_int())) == Some(1));
     assert!(rt; !is_some_pointer(subs.get(0)));
     assert!(rt; is_some_pointer(subs.get(1)));
 }
 
 #[test]
 fn a_handle_finds_its_type(rt: HostRuntime) {
-    let subs = two_entries(&rt).expect(&rt, "memory");
+    let subs = two_entries(rt.alloc()).expect(&rt, "memory");
     let cases = [
         (TypeHandle::BackReference(0), false),
         (TypeHandle::BackReference(1), true),
@@ -98,26 +163,8 @@ fn a_handle_finds_its_type(rt: HostRuntime) {
 }
 
 #[test]
-fn the_others_have_positions_of_their_own(rt: HostRuntime) {
-    let mut subs = SubstitutionTable::new(rt.alloc());
-    assert!(rt; matches!(subs.insert(pointer_to_int()), Ok(0)));
-    assert!(rt; matches!(subs.insert_non_substitution(pointer_to_int()), Ok(0)));
-    assert!(rt; subs.lengths() == (1, 1));
-    assert!(rt; is_some_pointer(subs.get_non_substitution(0)));
-    assert!(rt; is_other_pointer(&subs, 0));
-}
-
-#[test]
-fn cutting_takes_out_the_others(rt: HostRuntime) {
-    let mut subs = one_each(&rt).expect(&rt, "memory");
-    subs.cut_back((1, 0));
-    assert!(rt; subs.get_non_substitution(0).is_none());
-    assert!(rt; subs.lengths() == (1, 0));
-}
-
-#[test]
 fn cutting_takes_out_numbered_ones(rt: HostRuntime) {
-    let mut subs = one_each(&rt).expect(&rt, "memory");
+    let mut subs = one_each(rt.alloc()).expect(&rt, "memory");
     subs.cut_back((0, 1));
     assert!(rt; subs.get(0).is_none());
     assert!(rt; is_some_pointer(subs.get_non_substitution(0)));
@@ -125,28 +172,32 @@ fn cutting_takes_out_numbered_ones(rt: HostRuntime) {
 }
 
 #[test]
-fn what_is_inserted_can_be_cut(rt: HostRuntime) {
-    let mut subs = one_each(&rt).expect(&rt, "memory");
+fn inserting_and_cutting_back_keeps_the_lengths(rt: HostRuntime) {
+    let mut subs = one_each(rt.alloc()).expect(&rt, "memory");
     insert_and_cut_back(&mut subs, pointer_to_int(), pointer_to_int());
     assert!(rt; subs.lengths() == (1, 1));
 }
 
 #[test]
 fn the_last_comes_out(rt: HostRuntime) {
-    let mut subs = two_entries(&rt).expect(&rt, "memory");
-    let last = subs.pop();
-    assert!(rt; is_some_pointer(last.as_ref()));
+    let mut subs = two_entries(rt.alloc()).expect(&rt, "memory");
+    assert!(rt; pop_pointer(&mut subs) == Some(true));
     assert!(rt; subs.len() == 1);
-    assert!(rt; subs.pop().is_some());
-    assert!(rt; subs.pop().is_none());
+    assert!(rt; pop_pointer(&mut subs) == Some(false));
+    assert!(rt; pop_pointer(&mut subs) == None);
 }
 
 #[test]
-fn a_list_is_the_numbered_components(rt: HostRuntime) {
+fn the_order_between_the_lists_is_left_out_by_equality(rt: HostRuntime) {
     let alloc = rt.alloc();
-    let mut list = Vec::new(alloc);
-    assert!(rt; list.push(pointer_to_int()).is_ok());
-    let subs = SubstitutionTable::from_list(alloc, list);
-    assert!(rt; subs.len() == 1);
-    assert!(rt; count_pointers(&subs) == 1);
+    let subs = one_each(alloc).expect(&rt, "memory");
+    let other = one_each_the_other_way(alloc).expect(&rt, "memory");
+    assert!(rt; subs == other);
+}
+
+#[test]
+fn a_table_with_both_lists_is_copied(rt: HostRuntime) {
+    let alloc = rt.alloc();
+    let subs = one_each(alloc).expect(&rt, "memory");
+    assert!(rt; is_copied(alloc, Ok(subs)));
 }
