@@ -1,21 +1,24 @@
 //! Nodes that the tests are made of. They promise nothing, so a test knows of them what it finds when it runs.
 
-use demangle_tree::{
+use demangle_nodes::{
     AbiTags, BuiltinType, CtorDtorName, Identifier, LeafName, OperatorName, Prefix, PrefixHandle,
-    SourceName, Substitutable, SubstitutionTable, TemplateArgs, TypeHandle, TypeNode,
-    UnqualifiedName,
+    SourceName, Substitutable, TemplateArgs, TypeHandle, TypeNode, UnqualifiedName,
 };
+use demangle_table::SubstitutionTable;
 use demangle_vocab::{SimpleOperatorName, StandardBuiltinType};
 use std::alloc::Global;
 
+/// The type `int`.
 pub fn int() -> TypeHandle {
     TypeHandle::Builtin(BuiltinType::Standard(StandardBuiltinType::Int))
 }
 
+/// A pointer to `int`, as a component.
 pub fn pointer_to_int() -> Substitutable {
     Substitutable::TypeNode(TypeNode::PointerTo(int()))
 }
 
+/// Whether the type is a pointer to `int`.
 pub fn is_type_pointer_to_int(node: &TypeNode) -> bool {
     match node {
         TypeNode::PointerTo(pointee) => *pointee == int(),
@@ -23,6 +26,7 @@ pub fn is_type_pointer_to_int(node: &TypeNode) -> bool {
     }
 }
 
+/// Whether the component is a pointer to `int`.
 pub fn is_pointer_to_int(entry: &Substitutable) -> bool {
     match entry {
         Substitutable::TypeNode(node) => is_type_pointer_to_int(node),
@@ -38,6 +42,7 @@ pub fn class_name(alloc: Global) -> UnqualifiedName {
     )
 }
 
+/// The prefix of `class_name`, as a component.
 pub fn class(alloc: Global) -> Substitutable {
     Substitutable::Prefix(Prefix::Unqualified(class_name(alloc)))
 }
@@ -62,6 +67,7 @@ pub fn table_of_class(alloc: Global) -> Option<SubstitutionTable> {
     Some(subs)
 }
 
+/// A complete constructor.
 pub fn constructor(alloc: Global) -> UnqualifiedName {
     UnqualifiedName::CtorDtor(
         CtorDtorName::CompleteConstructor(None),
@@ -69,14 +75,17 @@ pub fn constructor(alloc: Global) -> UnqualifiedName {
     )
 }
 
+/// A complete destructor.
 pub fn destructor(alloc: Global) -> UnqualifiedName {
     UnqualifiedName::CtorDtor(CtorDtorName::CompleteDestructor, AbiTags(Vec::new(alloc)))
 }
 
+/// A conversion to `int`.
 pub fn conversion_to_int(alloc: Global) -> UnqualifiedName {
     UnqualifiedName::Operator(OperatorName::Conversion(int()), AbiTags(Vec::new(alloc)))
 }
 
+/// The operator `new`.
 pub fn operator_new(alloc: Global) -> UnqualifiedName {
     UnqualifiedName::Operator(
         OperatorName::Simple(SimpleOperatorName::New),
@@ -92,6 +101,7 @@ pub fn template_of_class(alloc: Global) -> Substitutable {
     ))
 }
 
+/// The place of these arguments.
 pub fn place(args: Option<&TemplateArgs>) -> Option<usize> {
     match args {
         Some(args) => Some(args.1),

@@ -1,20 +1,31 @@
 //! Copies are made with ample memory, and equal what was copied.
 
-use crate::nodes::{
-    arguments, both, boxed, function, handle, is_copied, listed, mangled, name, simple_id, suffix,
-    sum, tags, types, unqualified,
-};
 use demangle_copies::TryClone;
-use demangle_text::Result;
-use demangle_tree::{
+use demangle_nodes::{
     ArrayType, BaseUnresolvedName, ClassEnumType, ClosureTypeName, CvQualifiers, Decltype,
     DestructorName, ExceptionSpec, ExprPrimary, Expression, FoldExpr, FunctionType, GlobalCtorDtor,
     Initializer, LambdaSig, LocalName, MemberName, NestedName, Prefix, PrefixHandle, SpecialName,
-    SubobjectExpr, Substitutable, SubstitutionTable, TemplateArg, TypeNode, UnresolvedName,
-    UnresolvedQualifierLevel, UnresolvedType, UnscopedName, UnscopedTemplateName, VectorType,
+    SubobjectExpr, Substitutable, TemplateArg, TypeNode, UnresolvedName, UnresolvedQualifierLevel,
+    UnresolvedType, UnscopedName, UnscopedTemplateName, VectorType,
+};
+use demangle_table::SubstitutionTable;
+use demangle_text::Result;
+use demangle_tree_samples::{
+    arguments, both, boxed, function, handle, listed, mangled, name, pointer_to_int, position,
+    simple_id, suffix, sum, tags, types, unqualified,
 };
 use demangle_vocab::{RefQualifier, SimpleOperatorName};
 use std::alloc::Global;
+
+fn is_copied<A: TryClone + PartialEq + Drop>(alloc: Global, node: Result<A>) -> bool {
+    let Ok(node) = node else {
+        return false;
+    };
+    match node.try_clone(alloc) {
+        Ok(copied) => copied == node,
+        Err(_) => false,
+    }
+}
 
 fn signature(alloc: Global) -> Result<LambdaSig> {
     types(alloc).map(|types| LambdaSig(types.0))
@@ -186,4 +197,19 @@ fn functions_and_entries_are_copied(rt: HostRuntime) {
 fn a_table_is_copied(rt: HostRuntime) {
     let alloc = rt.alloc();
     assert!(rt; is_copied(alloc, table(alloc)));
+}
+
+// One component in each list.
+fn one_each(alloc: Global) -> Option<SubstitutionTable> {
+    let mut subs = SubstitutionTable::new(alloc);
+    position(subs.insert(pointer_to_int()))?;
+    position(subs.insert_non_substitution(pointer_to_int()))?;
+    Some(subs)
+}
+
+#[test]
+fn a_table_with_both_lists_is_copied(rt: HostRuntime) {
+    let alloc = rt.alloc();
+    let subs = one_each(alloc).expect(&rt, "memory");
+    assert!(rt; is_copied(alloc, Ok(subs)));
 }
