@@ -11,8 +11,8 @@ use demangle_nodes::{
 use demangle_table::SubstitutionTable;
 use demangle_text::Result;
 use demangle_tree_samples::{
-    arguments, both, boxed, function, handle, listed, mangled, name, pointer_to_int, position,
-    simple_id, suffix, sum, tags, types, unqualified,
+    arguments, both, boxed, class, function, handle, listed, mangled, name, pointer_to_int,
+    position, simple_id, suffix, sum, tags, types, unqualified,
 };
 use demangle_vocab::{RefQualifier, SimpleOperatorName};
 use std::alloc::Global;
@@ -50,9 +50,9 @@ fn template(alloc: Global) -> Result<Prefix> {
     arguments(alloc, 7).map(|list| Prefix::Template(PrefixHandle::BackReference(0), list))
 }
 
+// The table of the one component that is a pointer to `int`.
 fn table(alloc: Global) -> Result<SubstitutionTable> {
-    let entry = template(alloc).map(|prefix| Substitutable::Prefix(prefix));
-    listed(alloc, entry).map(|list| SubstitutionTable::from_list(alloc, list))
+    listed(alloc, Ok(pointer_to_int())).map(|list| SubstitutionTable::from_list(alloc, list))
 }
 
 #[test]
@@ -191,6 +191,7 @@ fn functions_and_entries_are_copied(rt: HostRuntime) {
     assert!(rt; is_copied(alloc, template(alloc)));
     let entry = template(alloc).map(|prefix| Substitutable::Prefix(prefix));
     assert!(rt; is_copied(alloc, entry));
+    assert!(rt; is_copied(alloc, Ok(class(alloc))));
 }
 
 #[test]
