@@ -1,11 +1,11 @@
 //! The names of plain functions: `_Z`, a source name and one-letter builtin types, as `_Z3fooib`.
 
-ghost use Rattle.std.specs.Prelude.{◌≡◌, ◌++◌, ◌+◌, Some, None, MatchOption, IfOk, IsErrOf, string_bytes, length, codes, ℕ, ◌∷◌, if◌then◌else◌};
+ghost use Rattle.std.specs.Prelude.{◌≡◌, Some, None, MatchOption, IfOk, string_bytes, if◌then◌else◌};
 ghost use Rattle.demangle_text.specs.Spot.{spot};
 ghost use Rattle.cpp_demangle.specs.Letter.{IsLetter};
-ghost use Rattle.demangle_vocab.specs.Table.{text_at, word_read};
-ghost use Rattle.demangle_vocab.specs.Builtins.{builtins, builtin_words, number_of_builtin};
-ghost use Rattle.demangle_grammar.specs.CallText.{call_text, call_with, identifier_of, is_identifier, is_identifier_byte, joined, letter_text, further_types, type_texts, parameters, source_name};
+ghost use Rattle.demangle_vocab.specs.Table.{word_read};
+ghost use Rattle.demangle_vocab.specs.Builtins.{builtin_words};
+ghost use Rattle.demangle_grammar.specs.CallText.{call_text, call_with, identifier_of, is_identifier, is_identifier_byte, joined, letter_text, further_types, type_texts, source_name};
 
 use demangle_text::{IndexStr, consume, parse_unsigned};
 use demangle_vocab::StandardBuiltinType;

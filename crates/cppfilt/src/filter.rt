@@ -1,10 +1,9 @@
 //! From the input to the output, block by block.
 
-ghost use Rattle.std.specs.Prelude.{◌≡◌, ℕ, ◌+◌, ◌<◌, ◌≤◌, List, [], length, IfOk, MatchResult};
+ghost use Rattle.std.specs.Prelude.{◌≡◌, ◌+◌, ◌<◌, ◌≤◌, [], length, IfOk};
 ghost use Rattle.std.specs.Io.KnownBytes.{ReadConsumes};
 ghost use Rattle.demangle_grammar.specs.Lines.{before_feed, due};
-ghost use Rattle.cppfilt.specs.Causes.{SourceCause, SinkCause, TakenCount};
-ghost use Rattle.cppfilt.specs.Moves.{Moves, Begins};
+ghost use Rattle.cppfilt.specs.Causes.{SourceCause, TakenCount};
 ghost use Rattle.cppfilt.specs.Outcome.{Stopped, Finished};
 ghost use Rattle.cppfilt.specs.Owed.{ahead};
 ghost use Rattle.cppfilt.specs.Statuses.{refusal_status};

@@ -1,5 +1,5 @@
 -- Trees: what contracts say of a node of the syntax tree, as plain data.
-use Rattle.std.specs.Prelude.{ℕ, ℤ, suc, Bool, true, false, List, [], ◌∷◌, ◌==◌, ◌&&◌, not}
+use Rattle.std.specs.Prelude.{ℕ, ℤ, Bool, true, false, List, [], ◌∷◌, ◌==◌, ◌&&◌, not}
 use Rattle.std.specs.Ordering.{int_eq}
 
 -- The two lists of components: the numbered ones, and the others.

@@ -1,6 +1,6 @@
 -- Single fields of trees.
 use Rattle.std.specs.Prelude.{ℕ, Bool, true, false, Option, Some, None}
-use Rattle.demangle_core.specs.Core.{Tag, Core, node, ref, end, chosen, N}
+use Rattle.demangle_core.specs.Core.{Tag, Core, node, ref, end, N}
 
 -- The position of a numbered component that a handle refers to.
 abbrev pub reference_of : Core → Option ℕ

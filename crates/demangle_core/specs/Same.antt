@@ -2,10 +2,10 @@
 use Rattle.std.specs.Prelude.{◌≡◌, refl, Bool, true, false, ◌&&◌, ◌==◌}
 use Rattle.std.specs.Cmp.{IsEquivalence, nat_eq_equiv, int_eq_equiv, first_so, second_so}
 use Rattle.std.specs.Ordering.{int_eq}
-use Rattle.std.proofs.Common.{subst, List}
+use Rattle.std.proofs.Common.{subst}
 use Rattle.std.specs.Cmp.Lexicographic.{pointwise}
 use Rattle.std.proofs.lemmas.Cmp.{lists_equiv}
-use Rattle.demangle_core.specs.Table.{Table, listed, same_tables}
+use Rattle.demangle_core.specs.Table.{listed, same_tables}
 use Rattle.demangle_core.specs.Core.{Core, Which, N, U, code, end, node, place, number, flag, chosen, ref, mark, same, same_which, same_flag, alike}
 
 abbrev IsSo : Bool → Type 0

@@ -1,5 +1,5 @@
 -- References to components that are there.
-use Rattle.std.specs.Prelude.{ℕ, ◌<◌, List, [], ◌∷◌, ◌++◌}
+use Rattle.std.specs.Prelude.{◌<◌, List, [], ◌∷◌, ◌++◌}
 use Rattle.demangle_core.specs.Core.{Core, end, node, place, number, flag, chosen, ref, mark}
 use Rattle.demangle_core.specs.Table.{Entry, Table, count}
 

@@ -2,7 +2,7 @@
 use Rattle.std.specs.Prelude.{ℕ, zero, suc, Bool, true, false, List, [], ◌∷◌, ◌++◌, map, Option, Some, None, slice_get}
 use Rattle.std.specs.Prelude.{◌&&◌}
 use Rattle.std.specs.Cmp.Lexicographic.{pointwise}
-use Rattle.demangle_core.specs.Core.{Core, Tag, end, node, ref, Which, N, U, same, same_which}
+use Rattle.demangle_core.specs.Core.{Core, Tag, node, ref, Which, N, U, same, same_which}
 
 -- A component: its list, and its tree.
 pub record Entry : Type 0 where

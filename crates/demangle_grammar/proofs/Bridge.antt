@@ -4,7 +4,7 @@ use Rattle.std.proofs.Common.{refl, ap, sym, subst, ◌∙◌, arith, rules}
 use Rattle.std.proofs.lemmas.List.{length-take-le}
 use Rattle.demangle_core.specs.Table.{added, count, size}
 use Rattle.demangle_core.specs.Core.{Core, end, node, place, number, flag, chosen, ref, mark, ◌⊕◌, Which, N, U}
-use Rattle.demangle_text.specs.Kind.{Cause, Kind, Unread, End, Text, Bad, ends}
+use Rattle.demangle_text.specs.Kind.{Cause, Kind, Unread, End, Text, Bad}
 use Rattle.demangle_text.specs.Kind as kind
 use Rattle.demangle_text.specs.Spot.{Spot, skip}
 use Rattle.demangle_text.specs.Found.{Found, took, none, mapped, and_rest}
@@ -16,7 +16,7 @@ use Rattle.demangle_grammar.specs.Rule.{Given, Class, Row, Eat, Leaf, Rule}
 use Rattle.demangle_grammar.specs.Tree.{cores, How, shape, component_of, template_entry, taken_of, reference}
 use Rattle.demangle_grammar.specs.Rows.{rule}
 use Rattle.demangle_grammar.specs.Reading.{State, Answer, Yes, No, Deep, find, numbered, worded, given, holds, refusal, marks, step, where_so, found, next_do, or_else, ended, many, turned, turn, turns, whole, sized, tried, trial_of, run_rule, read_from, answer, go_on, hard, soft, kept, prefix_entry, is_nestable, is_empty, next_is, ahead_by, widened, is_in, run_found}
-use Rattle.demangle_grammar.specs.Code.{joined, joined_to, Here, at, Reply, Out, close, committed, from_row, read_spot, read_leaf, read_core, and_then, and_again, unless_ends, eat_at, taken_from, taken_over, marked, referred, eaten, cstep, all_of, Go, one_row, rows_of, starred, turns_of, inside, trial_at, flag_of, taken_if, taken_word, choice, go_after, crun, cread}
+use Rattle.demangle_grammar.specs.Code.{joined, joined_to, Here, at, Reply, Out, close, committed, from_row, read_spot, read_leaf, read_core, and_then, and_again, eat_at, taken_over, eaten, cstep, all_of, Go, rows_of, starred, turns_of, inside, trial_at, flag_of, taken_if, taken_word, choice, go_after, crun, cread}
 use Rattle.demangle_grammar.specs.Code as code
 use Rattle.demangle_grammar.specs.Seen.{seen, replied}
 use Rattle.demangle_grammar.specs.Laws.{ReadsCode}

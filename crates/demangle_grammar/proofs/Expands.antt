@@ -1,6 +1,6 @@
 -- What is expanded of small trees, by computation: a reference through another one, a place, an argument list's place.
 use Rattle.std.proofs.Common.{◌≡◌, [], ◌∷◌, refl}
-use Rattle.demangle_core.specs.Core.{Core, Tag, N, U}
+use Rattle.demangle_core.specs.Core.{Tag, N, U}
 use Rattle.demangle_core.specs.Core as core
 use Rattle.demangle_core.specs.Table.{Table, entry_at}
 use Rattle.demangle_grammar.specs.Expand.{end, node, bytes, entry, expand}

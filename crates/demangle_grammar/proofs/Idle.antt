@@ -7,7 +7,7 @@ use Rattle.demangle_grammar.specs.Tree.{trees, Tree, nil, core, How}
 use Rattle.demangle_grammar.specs.Rows.{rule}
 use Rattle.demangle_grammar.specs.Reading.{State, Answer, Yes, No, Deep, stepped, found, where_so, holds, answer, go_on, flat, after, Measured, next_do, or_else, soft, ended, run_rule, measure_from, enough, refusal}
 use Rattle.demangle_grammar.proofs.Steps.{step_then}
-use Rattle.demangle_grammar.specs.First.{takes_row, takes_leaf, takes_by, begins_leaf, begins_by, first, idle, idle_by, stops, unless, zero_if, Misses}
+use Rattle.demangle_grammar.specs.First.{takes_row, takes_leaf, begins_leaf, begins_by, first, idle, idle_by, stops, unless, zero_if, Misses}
 use Rattle.demangle_grammar.specs.Laws.{IsRefused, IsIdle}
 use Rattle.demangle_grammar.proofs.Ranks.{rank, takes, guarded, all_agree, takes_is, idle_is, first_is, rank_small}
 use Rattle.demangle_grammar.proofs.Truth.{both_true, either, or_false}

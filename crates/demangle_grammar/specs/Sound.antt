@@ -1,4 +1,4 @@
--- Sound nodes and tables: what printing and the look-ups ask of a node, its table and the input.
+-- Sound nodes and tables: what printing asks of a node, its table and the input.
 use Rattle.std.specs.Prelude.{◌⊎◌, ◌≡◌, ℕ, ◌≤◌, ◌-◌, ◌==◌, List, [], ◌∷◌, ◌++◌, length, take, drop, not, codes}
 use Rattle.demangle_core.specs.Core.{Core, Tag, end, node, place, number, flag, chosen, ref, mark}
 use Rattle.demangle_core.specs.Table.{Entry, Table}

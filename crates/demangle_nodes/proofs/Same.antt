@@ -6,7 +6,7 @@ use Rattle.std.specs.Cmp.Lexicographic.{pointwise}
 use Rattle.std.proofs.Common.{rules}
 use Rattle.std.specs.Prelude.{nat_eq, pos, Option, Some, None}
 use Rattle.demangle_nodes.specs.TreeLeaves.{tree_of_option, tree_of_number}
-use Rattle.demangle_core.specs.Core.{Core, Tag, end, node, place, number, flag, chosen, ref, mark, ◌⊕◌, trees, numbers, same, alike}
+use Rattle.demangle_core.specs.Core.{Core, Tag, end, node, trees, numbers, same, alike}
 
 -- ---- rows
 pub and_true : (b : Bool) → (b && true) ≡ b
@@ -17,16 +17,6 @@ and_false : (b : Bool) → (b && false) ≡ false
 and_false true = refl
 and_false false = refl
 
-pub behind_end : (c : Core) → c ⊕ end ≡ c
-behind_end end = refl
-behind_end (node t x n) = ap (node t x) (behind_end n)
-behind_end (place i j n) = ap (place i j) (behind_end n)
-behind_end (number v n) = ap (number v) (behind_end n)
-behind_end (flag v n) = ap (flag v) (behind_end n)
-behind_end (chosen t k n) = ap (chosen t k) (behind_end n)
-behind_end (ref w k n) = ap (ref w k) (behind_end n)
-behind_end (mark i n) = ap (mark i) (behind_end n)
-
 module _ {A : Type 0} (t : A → Tag) (p : A → Core) where
   pub lengths_differ : (xs ys : List A) → ((length xs ≡ length ys) → ⊥) → same (trees t p xs) (trees t p ys) ≡ false
   lengths_differ [] [] not_same = absurd (not_same refl)
@@ -35,12 +25,6 @@ module _ {A : Type 0} (t : A → Tag) (p : A → Core) where
   lengths_differ (x ∷ xs) (y ∷ ys) not_same =
       ap (λ b. alike (t x) (t y) (same (p x) (p y)) && b) (lengths_differ xs ys (λ e. not_same (ap suc e)))
       ∙ and_false (alike (t x) (t y) (same (p x) (p y)))
-
-pub numbers_differ : (xs ys : List ℤ) → ((length xs ≡ length ys) → ⊥) → same (numbers xs) (numbers ys) ≡ false
-numbers_differ [] [] not_same = absurd (not_same refl)
-numbers_differ [] (y ∷ ys) not_same = refl
-numbers_differ (x ∷ xs) [] not_same = refl
-numbers_differ (x ∷ xs) (y ∷ ys) not_same = ap (λ b. int_eq x y && b) (numbers_differ xs ys (λ e. not_same (ap suc e))) ∙ and_false (int_eq x y)
 
 pub naturals : (a b : ℕ) → int_eq (pos a) (pos b) ≡ nat_eq a b
 naturals a b = search rules

@@ -1,11 +1,11 @@
 -- The calls of the table over the words of its contracts.
-use Rattle.std.proofs.Common.{◌≡◌, refl, ap, ◌∙◌, sym, subst, ℕ, suc, zero, ◌≤◌, ◌<◌, ◌+◌, ◌-◌, List, [], ◌∷◌, ◌++◌, length, take, drop, get_or, map, min, arith}
+use Rattle.std.proofs.Common.{◌≡◌, refl, ap, ◌∙◌, sym, subst, ℕ, suc, zero, ◌≤◌, ◌<◌, ◌+◌, ◌-◌, List, [], ◌∷◌, ◌++◌, length, take, get_or, map, min, arith}
 use Rattle.std.proofs.lemmas.List.{map-append, length-map, length-append, length-take}
 use Rattle.std.proofs.lemmas.Option.{slice_get-map}
 use Rattle.std.specs.List.{take-map}
 use Rattle.std.specs.Prelude.{slice_get, Option, Some, None, option_map, IfSome, MatchOption}
-use Rattle.demangle_core.specs.Core.{Core, Which, N, U}
-use Rattle.demangle_core.specs.Table.{Entry, Table, count, listed, first_of, added, size, sizes, cut, entry_at, empty_table, numbered}
+use Rattle.demangle_core.specs.Core.{N, U}
+use Rattle.demangle_core.specs.Table.{listed, added, size, sizes, cut, entry_at, empty_table, numbered}
 use Rattle.demangle_table.specs.View.{table_from, entry_trees, woven, Rise, Climb}
 use Rattle.demangle_nodes.specs.TreeEntries.{tree_of_substitutable}
 use Rattle.demangle_nodes.specs.declared.entries.Substitutable.{Substitutable}

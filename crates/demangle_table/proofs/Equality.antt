@@ -3,8 +3,8 @@ use Rattle.std.proofs.Common.{◌≡◌, ◌∙◌, sym, ℕ, Bool, List, length
 use Rattle.std.proofs.lemmas.List.{length-map}
 use Rattle.std.specs.Cmp.Lexicographic.{pointwise}
 use Rattle.std.specs.Cmp.Derive.Mapped.{pointwise-map}
-use Rattle.demangle_core.specs.Core.{Core, N, U, same}
-use Rattle.demangle_core.specs.Table.{listed, same_tables}
+use Rattle.demangle_core.specs.Core.{same}
+use Rattle.demangle_core.specs.Table.{same_tables}
 use Rattle.demangle_table.specs.View.{table_from, entry_trees}
 use Rattle.demangle_nodes.specs.TreeEntries.{tree_of_substitutable}
 use Rattle.demangle_nodes.specs.declared.entries.Substitutable.{Substitutable}

@@ -4,7 +4,7 @@ use Rattle.std.proofs.lemmas.Bool.{cases_lt}
 use Rattle.std.proofs.Math.ListN.{set}
 use Rattle.std.proofs.lemmas.List.{length-take, length-map}
 use Rattle.demangle_core.specs.Core.{Core, Which, N, U}
-use Rattle.demangle_core.specs.Table.{Entry, Table, count, first_of, listed, added, size, sizes, cut}
+use Rattle.demangle_core.specs.Table.{Entry, count, first_of, listed, cut}
 use Rattle.demangle_table.specs.View.{all_of, woven, Rise, Climb}
 use Rattle.demangle_core.proofs.Cuts.{entry}
 

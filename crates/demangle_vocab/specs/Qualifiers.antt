@@ -1,4 +1,4 @@
--- The ref-qualifiers (ABI section 5.1.5.3, <ref-qualifier>) and the mark of an explicit object parameter (ABI section 5.1.4, <nested-name>): word, text.
+-- The ref-qualifiers (ABI section 5.1.5.3, <ref-qualifier>) and the mark of an explicit object parameter (ABI section 5.1.2, <nested-name>): word, text.
 use Rattle.std.specs.Prelude.{ℕ, List, [], ◌∷◌, codes}
 use Prim.Native.String.{String}
 use Rattle.demangle_vocab.specs.Table.{Entry, words}

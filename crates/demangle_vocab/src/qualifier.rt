@@ -1,4 +1,4 @@
-//! The ref-qualifiers (ABI section 5.1.5.3, <ref-qualifier>) and the mark of an explicit object parameter (ABI section 5.1.4,
+//! The ref-qualifiers (ABI section 5.1.5.3, <ref-qualifier>) and the mark of an explicit object parameter (ABI section 5.1.2,
 //! <nested-name>).
 
 ghost use Rattle.std.specs.Prelude.{◌≡◌, ◌≤◌, ◌+◌, ℕ, List, ◌∷◌, OnOk, IfOk, length};
