@@ -2,7 +2,7 @@
 
 ghost use Rattle.std.specs.Prelude.{◌≡◌, IfOk, IfErr};
 ghost use Rattle.demangle_text.specs.declared.error.Error.TheVariants.{OutOfMemory};
-ghost use Rattle.demangle_nodes.specs.TreeLeaves.{tree_of_option};
+ghost use Rattle.demangle_leaf_nodes.specs.TreeLeaves.{tree_of_option};
 ghost use Rattle.demangle_nodes.specs.TreeEntries.{
   tree_of_array_type,
   tree_of_class_enum_type,

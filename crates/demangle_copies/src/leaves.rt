@@ -3,7 +3,7 @@
 ghost use Rattle.std.specs.Prelude.{◌≡◌, IfOk, IfErr};
 ghost use Rattle.demangle_core.specs.Core.{trees};
 ghost use Rattle.demangle_text.specs.declared.error.Error.TheVariants.{OutOfMemory};
-ghost use Rattle.demangle_nodes.specs.TreeLeaves.{
+ghost use Rattle.demangle_leaf_nodes.specs.TreeLeaves.{
   parts_of_clone_suffix,
   tag_of_clone_suffix,
   tree_of_abi_tags,

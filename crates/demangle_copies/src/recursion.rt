@@ -3,7 +3,7 @@
 ghost use Rattle.std.specs.Prelude.{◌≡◌, IfOk, IfErr, Ok};
 ghost use Rattle.demangle_core.specs.Core.{trees};
 ghost use Rattle.demangle_text.specs.declared.error.Error.TheVariants.{OutOfMemory};
-ghost use Rattle.demangle_nodes.specs.TreeLeaves.{parts_of_option, tag_of_option};
+ghost use Rattle.demangle_leaf_nodes.specs.TreeLeaves.{parts_of_option, tag_of_option};
 ghost use Rattle.demangle_nodes.specs.TreeNodes.{
   tag_of_mangled_name,
   parts_of_mangled_name,

@@ -1,7 +1,7 @@
 //! The readers, each in a context: the level, the limit and the flag are as before after every answer.
 
 ghost use Rattle.std.specs.Prelude.{◌≡◌};
-ghost use Rattle.demangle_nodes.specs.TreeLeaves.{tree_of_source_name, tree_of_cv_qualifiers, tree_of_substitution, tree_of_signed, tree_of_seq_id, tree_of_identifier, tree_of_clone_type_identifier, tree_of_abi_tag, tree_of_nv_offset, tree_of_v_offset, tree_of_call_offset, tree_of_discriminator, tree_of_template_param, tree_of_function_param, tree_of_unnamed_type_name};
+ghost use Rattle.demangle_leaf_nodes.specs.TreeLeaves.{tree_of_source_name, tree_of_cv_qualifiers, tree_of_substitution, tree_of_signed, tree_of_seq_id, tree_of_identifier, tree_of_clone_type_identifier, tree_of_abi_tag, tree_of_nv_offset, tree_of_v_offset, tree_of_call_offset, tree_of_discriminator, tree_of_template_param, tree_of_function_param, tree_of_unnamed_type_name};
 ghost use Rattle.demangle_table.specs.TableOf.{table_of};
 ghost use Rattle.demangle_grammar.specs.Rule.{Row};
 ghost use Rattle.demangle_leaf.specs.Context.{levels_left};

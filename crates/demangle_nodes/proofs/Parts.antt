@@ -5,20 +5,20 @@ use Rattle.std.specs.declared.option.Option.TheVariants as of_option
 use Rattle.std.specs.declared.boxed.Box.{Box}
 use Rattle.demangle_core.specs.Core.{Tag, end, node, place, number, mark, ◌⊕◌, trees}
 use Rattle.demangle_vocab.specs.declared.operator.SimpleOperatorName.{SimpleOperatorName}
-use Rattle.demangle_nodes.specs.declared.leaves.TemplateParam.{TemplateParam}
-use Rattle.demangle_nodes.specs.declared.leaves.Discriminator.{Discriminator}
-use Rattle.demangle_nodes.specs.declared.leaves.ResourceName.{ResourceName}
-use Rattle.demangle_nodes.specs.declared.leaves.SourceName.{SourceName}
-use Rattle.demangle_nodes.specs.declared.leaves.CloneSuffix.{CloneSuffix}
-use Rattle.demangle_nodes.specs.declared.leaves.CallOffset.{CallOffset}
-use Rattle.demangle_nodes.specs.declared.leaves.FunctionParam.{FunctionParam}
-use Rattle.demangle_nodes.specs.declared.leaves.UnscopedTemplateNameHandle.{UnscopedTemplateNameHandle}
-use Rattle.demangle_nodes.specs.declared.leaves.UnresolvedTypeHandle.{UnresolvedTypeHandle}
-use Rattle.demangle_nodes.specs.declared.leaves.TypeHandle.{TypeHandle}
-use Rattle.demangle_nodes.specs.declared.leaves.OperatorName.{OperatorName}
-use Rattle.demangle_nodes.specs.declared.leaves.BareFunctionType.{BareFunctionType}
-use Rattle.demangle_nodes.specs.declared.leaves.UnscopedName.{UnscopedName}
-use Rattle.demangle_nodes.specs.declared.leaves.NestedName.{NestedName}
+use Rattle.demangle_leaf_nodes.specs.declared.leaves.TemplateParam.{TemplateParam}
+use Rattle.demangle_leaf_nodes.specs.declared.leaves.Discriminator.{Discriminator}
+use Rattle.demangle_leaf_nodes.specs.declared.leaves.ResourceName.{ResourceName}
+use Rattle.demangle_leaf_nodes.specs.declared.leaves.SourceName.{SourceName}
+use Rattle.demangle_leaf_nodes.specs.declared.leaves.CloneSuffix.{CloneSuffix}
+use Rattle.demangle_leaf_nodes.specs.declared.leaves.CallOffset.{CallOffset}
+use Rattle.demangle_leaf_nodes.specs.declared.leaves.FunctionParam.{FunctionParam}
+use Rattle.demangle_leaf_nodes.specs.declared.leaves.UnscopedTemplateNameHandle.{UnscopedTemplateNameHandle}
+use Rattle.demangle_leaf_nodes.specs.declared.leaves.UnresolvedTypeHandle.{UnresolvedTypeHandle}
+use Rattle.demangle_leaf_nodes.specs.declared.leaves.TypeHandle.{TypeHandle}
+use Rattle.demangle_leaf_nodes.specs.declared.leaves.OperatorName.{OperatorName}
+use Rattle.demangle_leaf_nodes.specs.declared.leaves.BareFunctionType.{BareFunctionType}
+use Rattle.demangle_leaf_nodes.specs.declared.leaves.UnscopedName.{UnscopedName}
+use Rattle.demangle_leaf_nodes.specs.declared.leaves.NestedName.{NestedName}
 use Rattle.demangle_nodes.specs.declared.nodes.MangledName.{MangledName}
 use Rattle.demangle_nodes.specs.declared.nodes.MangledName.TheVariants as of_mangled_name
 use Rattle.demangle_nodes.specs.declared.nodes.Encoding.{Encoding}
@@ -51,7 +51,7 @@ use Rattle.demangle_nodes.specs.declared.nodes.SpecialName.TheVariants as of_spe
 use Rattle.demangle_nodes.specs.declared.nodes.SubobjectExpr.{SubobjectExpr}
 use Rattle.demangle_nodes.specs.declared.nodes.FoldExpr.{FoldExpr}
 use Rattle.demangle_nodes.specs.declared.nodes.FoldExpr.TheVariants as of_fold_expr
-use Rattle.demangle_nodes.specs.TreeLeaves.{tree_of_option, tag_of_option, parts_of_option, tree_of_signed, tree_of_simple_operator_name, tree_of_template_param, tree_of_discriminator, tag_of_resource_name, parts_of_resource_name, tree_of_source_name, tag_of_clone_suffix, parts_of_clone_suffix, tree_of_call_offset, tree_of_function_param, tree_of_unscoped_template_name_handle, tree_of_unresolved_type_handle, tree_of_type_handle, tree_of_operator_name, tree_of_bare_function_type, tree_of_unscoped_name, tree_of_nested_name}
+use Rattle.demangle_leaf_nodes.specs.TreeLeaves.{tree_of_option, tag_of_option, parts_of_option, tree_of_signed, tree_of_simple_operator_name, tree_of_template_param, tree_of_discriminator, tag_of_resource_name, parts_of_resource_name, tree_of_source_name, tag_of_clone_suffix, parts_of_clone_suffix, tree_of_call_offset, tree_of_function_param, tree_of_unscoped_template_name_handle, tree_of_unresolved_type_handle, tree_of_type_handle, tree_of_operator_name, tree_of_bare_function_type, tree_of_unscoped_name, tree_of_nested_name}
 use Rattle.demangle_nodes.specs.TreeNodes.{tag_of_mangled_name, parts_of_mangled_name, tag_of_encoding, parts_of_encoding, tag_of_global_ctor_dtor, parts_of_global_ctor_dtor, tag_of_name, parts_of_name, tree_of_template_args, tag_of_template_arg, parts_of_template_arg, tree_of_initializer, tag_of_expression, parts_of_expression, tag_of_unresolved_name, parts_of_unresolved_name, tag_of_unresolved_qualifier_level, parts_of_unresolved_qualifier_level, tag_of_simple_id, parts_of_simple_id, tag_of_base_unresolved_name, parts_of_base_unresolved_name, tag_of_destructor_name, parts_of_destructor_name, tag_of_expr_primary, parts_of_expr_primary, tag_of_local_name, parts_of_local_name, tag_of_special_name, parts_of_special_name, tag_of_fold_expr, parts_of_fold_expr, row_of_expression, row_of_template_arg, row_of_unresolved_qualifier_level, boxed_name, tag_of_held_initializer, parts_of_held_initializer, tag_of_held_template_args, parts_of_held_template_args, tag_of_held_name, parts_of_held_name}
 use Rattle.demangle_nodes.specs.declared.nodes.BaseUnresolvedName.TheBlock.{Row_of-Expression, end_of-Expression, more_of-Expression, items-the_row-Expression, items_hidden-the_row-Expression-1, hidden-the_row-Expression-1}
 use Rattle.demangle_nodes.specs.declared.nodes.BaseUnresolvedName.TheBlock.{Row_of-TemplateArg, end_of-TemplateArg, more_of-TemplateArg, items-the_row-TemplateArg, items_hidden-the_row-TemplateArg-0, hidden-the_row-TemplateArg-0}

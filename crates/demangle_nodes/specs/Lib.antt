@@ -1,3 +1,2 @@
-pub mod TreeLeaves
 pub mod TreeNodes
 pub mod TreeEntries

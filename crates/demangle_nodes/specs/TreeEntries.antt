@@ -20,9 +20,7 @@ use Rattle.demangle_nodes.specs.declared.entries.UnresolvedType.{UnresolvedType}
 use Rattle.demangle_nodes.specs.declared.entries.UnresolvedType.TheVariants as of_unresolved_type
 use Rattle.demangle_nodes.specs.declared.entries.Substitutable.{Substitutable}
 use Rattle.demangle_nodes.specs.declared.entries.Substitutable.TheVariants as of_substitutable
-use Rattle.demangle_nodes.specs.declared.entries.LeafName.{LeafName}
-use Rattle.demangle_nodes.specs.declared.entries.LeafName.TheVariants as of_leaf_name
-use Rattle.demangle_nodes.specs.TreeLeaves.{tree_of_option, tree_of_ref_qualifier, tree_of_well_known_component, tree_of_unnamed_type_name, tree_of_closure_type_name, tree_of_template_param, tree_of_source_name, tree_of_data_member_prefix, tree_of_cv_qualifiers, tree_of_template_template_param, tree_of_prefix_handle, tree_of_template_template_param_handle, tree_of_type_handle, tree_of_bare_function_type, tree_of_pointer_to_member_type, tree_of_unqualified_name, tree_of_unscoped_template_name}
+use Rattle.demangle_leaf_nodes.specs.TreeLeaves.{tree_of_option, tree_of_ref_qualifier, tree_of_template_param, tree_of_source_name, tree_of_data_member_prefix, tree_of_cv_qualifiers, tree_of_template_template_param, tree_of_prefix_handle, tree_of_template_template_param_handle, tree_of_type_handle, tree_of_bare_function_type, tree_of_pointer_to_member_type, tree_of_unqualified_name, tree_of_unscoped_template_name}
 use Rattle.demangle_nodes.specs.TreeNodes.{tree_of_name, tree_of_template_args, tree_of_expression}
 
 abbrev pub tag_of_decltype : Decltype → Tag
@@ -184,8 +182,3 @@ abbrev pub tree_of_substitutable : Substitutable → Core
 tree_of_substitutable x = node (tag_of_substitutable x) (parts_of_substitutable x) end
 
 -- that of what it borrows
-abbrev pub tree_of_leaf_name : LeafName → Core
-tree_of_leaf_name (of_leaf_name.SourceName x) = tree_of_source_name x.now
-tree_of_leaf_name (of_leaf_name.WellKnownComponent x) = tree_of_well_known_component x.now
-tree_of_leaf_name (of_leaf_name.Closure x) = tree_of_closure_type_name x.now
-tree_of_leaf_name (of_leaf_name.UnnamedType x) = tree_of_unnamed_type_name x.now

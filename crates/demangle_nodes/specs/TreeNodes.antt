@@ -44,7 +44,7 @@ use Rattle.demangle_nodes.specs.declared.nodes.UnresolvedName.{Row_of-Unresolved
 use Rattle.demangle_nodes.specs.declared.nodes.Expression.{Held-Expression-New-2, Expression-New-2-None', Expression-New-2-Some'}
 use Rattle.demangle_nodes.specs.declared.nodes.BaseUnresolvedName.{Held-BaseUnresolvedName-Operator-1, BaseUnresolvedName-Operator-1-None', BaseUnresolvedName-Operator-1-Some'}
 use Rattle.demangle_nodes.specs.declared.nodes.LocalName.{Held-LocalName-Relative-1, LocalName-Relative-1-None', LocalName-Relative-1-Some'}
-use Rattle.demangle_nodes.specs.TreeLeaves.{tree_of_option, tree_of_signed, tree_of_simple_operator_name, tree_of_template_param, tree_of_discriminator, tag_of_resource_name, parts_of_resource_name, tree_of_source_name, tag_of_clone_suffix, parts_of_clone_suffix, tree_of_call_offset, tree_of_function_param, tree_of_unscoped_template_name_handle, tree_of_unresolved_type_handle, tree_of_type_handle, tree_of_operator_name, tree_of_bare_function_type, tree_of_unscoped_name, tree_of_nested_name}
+use Rattle.demangle_leaf_nodes.specs.TreeLeaves.{tree_of_option, tree_of_signed, tree_of_simple_operator_name, tree_of_template_param, tree_of_discriminator, tag_of_resource_name, parts_of_resource_name, tree_of_source_name, tag_of_clone_suffix, parts_of_clone_suffix, tree_of_call_offset, tree_of_function_param, tree_of_unscoped_template_name_handle, tree_of_unresolved_type_handle, tree_of_type_handle, tree_of_operator_name, tree_of_bare_function_type, tree_of_unscoped_name, tree_of_nested_name}
 
 abbrev pub tag_of_mangled_name : MangledName → Tag
 tag_of_mangled_name (of_mangled_name.Encoding _ _) = Tag.MangledNameEncoding

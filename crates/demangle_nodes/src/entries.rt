@@ -1,11 +1,11 @@
 //! The node types above names and expressions: types, prefixes, and the entries of the substitution table.
 
-use crate::leaves::{
+use crate::nodes::{Expression, Name, TemplateArgs};
+use demangle_leaf_nodes::{
     BareFunctionType, ClosureTypeName, CvQualifiers, DataMemberPrefix, PointerToMemberType,
     PrefixHandle, SourceName, TemplateParam, TemplateTemplateParam, TemplateTemplateParamHandle,
     TypeHandle, UnnamedTypeName, UnqualifiedName, UnscopedTemplateName,
 };
-use crate::nodes::{Expression, Name, TemplateArgs};
 use demangle_vocab::{RefQualifier, WellKnownComponent};
 
 /// `decltype` of an expression; `IdExpression` where it names an entity. ABI section 5.1.5.5, `<decltype>`.
@@ -106,14 +106,4 @@ pub enum Substitutable {
     UnresolvedType(UnresolvedType),
     Prefix(Prefix),
     Expression(Box<Expression>),
-}
-
-/// The last identifier of a name, which a constructor, a destructor or a member function takes over from its class. The
-/// original's type of this name.
-#[derive(Clone, Copy, Debug)]
-pub enum LeafName<'a> {
-    SourceName(&'a SourceName),
-    WellKnownComponent(&'a WellKnownComponent),
-    Closure(&'a ClosureTypeName),
-    UnnamedType(&'a UnnamedTypeName),
 }

@@ -1,29 +1,24 @@
 //! The node types of the syntax tree, the plain tree of each, and their equality.
 #![tactic(auto)]
 
-mod accessors;
 mod entries;
-mod leaves;
 mod nodes;
 mod same_entries;
-mod same_leaf_name;
-mod same_leaves;
-mod same_names;
 mod same_nodes;
 mod same_parts;
 
-pub use entries::{
-    ArrayType, ClassEnumType, Decltype, ExceptionSpec, FunctionType, LeafName, Prefix,
-    Substitutable, TypeNode, UnresolvedType, VectorType,
-};
-pub use leaves::{
+pub use demangle_leaf_nodes::{
     AbiTag, AbiTags, BareFunctionType, BuiltinType, CallOffset, CloneSuffix, CloneTypeIdentifier,
     ClosureTypeName, CtorDtorName, CvQualifiers, DataMemberPrefix, Discriminator, FunctionParam,
-    Identifier, LambdaSig, NestedName, NonSubstitution, Number, NvOffset, OperatorName,
+    Identifier, LambdaSig, LeafName, NestedName, NonSubstitution, Number, NvOffset, OperatorName,
     ParametricBuiltinType, PointerToMemberType, PrefixHandle, QualifiedBuiltin, ResourceName,
     SeqId, SourceName, Substitution, TemplateParam, TemplateTemplateParam,
     TemplateTemplateParamHandle, TypeHandle, UnnamedTypeName, UnqualifiedName,
     UnresolvedTypeHandle, UnscopedName, UnscopedTemplateName, UnscopedTemplateNameHandle, VOffset,
+};
+pub use entries::{
+    ArrayType, ClassEnumType, Decltype, ExceptionSpec, FunctionType, Prefix, Substitutable,
+    TypeNode, UnresolvedType, VectorType,
 };
 pub use nodes::{
     BaseUnresolvedName, DestructorName, Encoding, ExprPrimary, Expression, FoldExpr,

@@ -3,7 +3,7 @@
 //! A type by value inside types multiplies in the proofs, so a field is boxed wherever one of these types would
 //! otherwise grow too large.
 
-use crate::leaves::{
+use demangle_leaf_nodes::{
     BareFunctionType, CallOffset, CloneSuffix, Discriminator, FunctionParam, NestedName,
     OperatorName, ResourceName, SourceName, TemplateParam, TypeHandle, UnresolvedTypeHandle,
     UnscopedName, UnscopedTemplateNameHandle,

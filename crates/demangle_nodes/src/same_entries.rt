@@ -9,14 +9,14 @@ use crate::entries::{
     ArrayType, ClassEnumType, Decltype, ExceptionSpec, FunctionType, Prefix, Substitutable,
     TypeNode, UnresolvedType, VectorType,
 };
-use crate::same_names::same_ref_qualifier;
+use demangle_leaf_nodes::same_ref_qualifier;
 
 impl PartialEq for Decltype {
     ghost eq = { λ a b. same (tree_of_decltype a) (tree_of_decltype b) };
 
     ghost laws = { on_per tree_of_decltype (partial_equiv_from_equiv same_equiv) };
 
-    #[tactic(auto, using(crate::proofs::Same::rows))]
+    #[tactic(auto, using(demangle_leaf_nodes::proofs::Same::rows))]
     fn eq(&self, other: &Decltype) -> bool {
         match self {
             Decltype::IdExpression(a) => match other {
@@ -40,7 +40,7 @@ impl PartialEq for Prefix {
 
     ghost laws = { on_per tree_of_prefix (partial_equiv_from_equiv same_equiv) };
 
-    #[tactic(auto, using(crate::proofs::Same::rows))]
+    #[tactic(auto, using(demangle_leaf_nodes::proofs::Same::rows))]
     fn eq(&self, other: &Prefix) -> bool {
         match self {
             Prefix::Unqualified(a) => match other {
@@ -80,7 +80,7 @@ impl PartialEq for ArrayType {
 
     ghost laws = { on_per tree_of_array_type (partial_equiv_from_equiv same_equiv) };
 
-    #[tactic(auto, using(crate::proofs::Same::rows))]
+    #[tactic(auto, using(demangle_leaf_nodes::proofs::Same::rows))]
     fn eq(&self, other: &ArrayType) -> bool {
         match self {
             ArrayType::DimensionNumber(a, b) => match other {
@@ -108,7 +108,7 @@ impl PartialEq for VectorType {
 
     ghost laws = { on_per tree_of_vector_type (partial_equiv_from_equiv same_equiv) };
 
-    #[tactic(auto, using(crate::proofs::Same::rows))]
+    #[tactic(auto, using(demangle_leaf_nodes::proofs::Same::rows))]
     fn eq(&self, other: &VectorType) -> bool {
         match self {
             VectorType::DimensionNumber(a, b) => match other {
@@ -132,7 +132,7 @@ impl PartialEq for ClassEnumType {
 
     ghost laws = { on_per tree_of_class_enum_type (partial_equiv_from_equiv same_equiv) };
 
-    #[tactic(auto, using(crate::proofs::Same::rows))]
+    #[tactic(auto, using(demangle_leaf_nodes::proofs::Same::rows))]
     fn eq(&self, other: &ClassEnumType) -> bool {
         match self {
             ClassEnumType::Named(a) => match other {
@@ -164,7 +164,7 @@ impl PartialEq for ExceptionSpec {
 
     ghost laws = { on_per tree_of_exception_spec (partial_equiv_from_equiv same_equiv) };
 
-    #[tactic(auto, using(crate::proofs::Same::rows))]
+    #[tactic(auto, using(demangle_leaf_nodes::proofs::Same::rows))]
     fn eq(&self, other: &ExceptionSpec) -> bool {
         match self {
             ExceptionSpec::NoExcept => match other {
@@ -188,7 +188,7 @@ impl PartialEq for FunctionType {
 
     ghost laws = { on_per tree_of_function_type (partial_equiv_from_equiv same_equiv) };
 
-    #[tactic(auto, using(crate::proofs::Same::rows))]
+    #[tactic(auto, using(demangle_leaf_nodes::proofs::Same::rows))]
     fn eq(&self, other: &FunctionType) -> bool {
         self.cv_qualifiers == other.cv_qualifiers
             && (self.exception_spec == other.exception_spec
@@ -208,7 +208,7 @@ impl PartialEq for TypeNode {
 
     ghost laws = { on_per tree_of_type_node (partial_equiv_from_equiv same_equiv) };
 
-    #[tactic(auto, using(crate::proofs::Same::rows))]
+    #[tactic(auto, using(demangle_leaf_nodes::proofs::Same::rows))]
     fn eq(&self, other: &TypeNode) -> bool {
         match self {
             TypeNode::Function(a) => match other {
@@ -289,7 +289,7 @@ impl PartialEq for UnresolvedType {
 
     ghost laws = { on_per tree_of_unresolved_type (partial_equiv_from_equiv same_equiv) };
 
-    #[tactic(auto, using(crate::proofs::Same::rows))]
+    #[tactic(auto, using(demangle_leaf_nodes::proofs::Same::rows))]
     fn eq(&self, other: &UnresolvedType) -> bool {
         match self {
             UnresolvedType::Template(a, b) => match other {
@@ -313,7 +313,7 @@ impl PartialEq for Substitutable {
 
     ghost laws = { on_per tree_of_substitutable (partial_equiv_from_equiv same_equiv) };
 
-    #[tactic(auto, using(crate::proofs::Same::rows))]
+    #[tactic(auto, using(demangle_leaf_nodes::proofs::Same::rows))]
     fn eq(&self, other: &Substitutable) -> bool {
         match self {
             Substitutable::UnscopedTemplateName(a) => match other {

@@ -23,7 +23,7 @@ impl PartialEq for MangledName {
 
     ghost laws = { on_per tree_of_mangled_name (partial_equiv_from_equiv same_equiv) };
 
-    #[tactic(auto, using(crate::proofs::Same::and_true))]
+    #[tactic(auto, using(demangle_leaf_nodes::proofs::Same::and_true))]
     fn eq(&self, other: &MangledName) -> bool {
         same_mangled_name(self, other)
     }
@@ -38,7 +38,7 @@ impl PartialEq for Encoding {
 
     ghost laws = { on_per tree_of_encoding (partial_equiv_from_equiv same_equiv) };
 
-    #[tactic(auto, using(crate::proofs::Same::and_true))]
+    #[tactic(auto, using(demangle_leaf_nodes::proofs::Same::and_true))]
     fn eq(&self, other: &Encoding) -> bool {
         same_encoding(self, other)
     }
@@ -53,7 +53,7 @@ impl PartialEq for GlobalCtorDtor {
 
     ghost laws = { on_per tree_of_global_ctor_dtor (partial_equiv_from_equiv same_equiv) };
 
-    #[tactic(auto, using(crate::proofs::Same::and_true))]
+    #[tactic(auto, using(demangle_leaf_nodes::proofs::Same::and_true))]
     fn eq(&self, other: &GlobalCtorDtor) -> bool {
         same_global_ctor_dtor(self, other)
     }
@@ -68,7 +68,7 @@ impl PartialEq for Name {
 
     ghost laws = { on_per tree_of_name (partial_equiv_from_equiv same_equiv) };
 
-    #[tactic(auto, using(crate::proofs::Same::and_true))]
+    #[tactic(auto, using(demangle_leaf_nodes::proofs::Same::and_true))]
     fn eq(&self, other: &Name) -> bool {
         same_name(self, other)
     }
@@ -83,7 +83,7 @@ impl PartialEq for TemplateArgs {
 
     ghost laws = { on_per tree_of_template_args (partial_equiv_from_equiv same_equiv) };
 
-    #[tactic(auto, using(crate::proofs::Same::and_true))]
+    #[tactic(auto, using(demangle_leaf_nodes::proofs::Same::and_true))]
     fn eq(&self, other: &TemplateArgs) -> bool {
         same_template_args(self, other)
     }
@@ -98,7 +98,7 @@ impl PartialEq for TemplateArg {
 
     ghost laws = { on_per tree_of_template_arg (partial_equiv_from_equiv same_equiv) };
 
-    #[tactic(auto, using(crate::proofs::Same::and_true))]
+    #[tactic(auto, using(demangle_leaf_nodes::proofs::Same::and_true))]
     fn eq(&self, other: &TemplateArg) -> bool {
         same_template_arg(self, other)
     }
@@ -113,7 +113,7 @@ impl PartialEq for MemberName {
 
     ghost laws = { on_per tree_of_member_name (partial_equiv_from_equiv same_equiv) };
 
-    #[tactic(auto, using(crate::proofs::Same::and_true))]
+    #[tactic(auto, using(demangle_leaf_nodes::proofs::Same::and_true))]
     fn eq(&self, other: &MemberName) -> bool {
         same_member_name(self, other)
     }
@@ -128,7 +128,7 @@ impl PartialEq for Initializer {
 
     ghost laws = { on_per tree_of_initializer (partial_equiv_from_equiv same_equiv) };
 
-    #[tactic(auto, using(crate::proofs::Same::and_true))]
+    #[tactic(auto, using(demangle_leaf_nodes::proofs::Same::and_true))]
     fn eq(&self, other: &Initializer) -> bool {
         same_initializer(self, other)
     }
@@ -143,7 +143,7 @@ impl PartialEq for Expression {
 
     ghost laws = { on_per tree_of_expression (partial_equiv_from_equiv same_equiv) };
 
-    #[tactic(auto, using(crate::proofs::Same::and_true))]
+    #[tactic(auto, using(demangle_leaf_nodes::proofs::Same::and_true))]
     fn eq(&self, other: &Expression) -> bool {
         same_expression(self, other)
     }
@@ -158,7 +158,7 @@ impl PartialEq for UnresolvedName {
 
     ghost laws = { on_per tree_of_unresolved_name (partial_equiv_from_equiv same_equiv) };
 
-    #[tactic(auto, using(crate::proofs::Same::and_true))]
+    #[tactic(auto, using(demangle_leaf_nodes::proofs::Same::and_true))]
     fn eq(&self, other: &UnresolvedName) -> bool {
         same_unresolved_name(self, other)
     }
@@ -173,7 +173,7 @@ impl PartialEq for UnresolvedQualifierLevel {
 
     ghost laws = { on_per tree_of_unresolved_qualifier_level (partial_equiv_from_equiv same_equiv) };
 
-    #[tactic(auto, using(crate::proofs::Same::and_true))]
+    #[tactic(auto, using(demangle_leaf_nodes::proofs::Same::and_true))]
     fn eq(&self, other: &UnresolvedQualifierLevel) -> bool {
         same_unresolved_qualifier_level(self, other)
     }
@@ -188,7 +188,7 @@ impl PartialEq for SimpleId {
 
     ghost laws = { on_per tree_of_simple_id (partial_equiv_from_equiv same_equiv) };
 
-    #[tactic(auto, using(crate::proofs::Same::and_true))]
+    #[tactic(auto, using(demangle_leaf_nodes::proofs::Same::and_true))]
     fn eq(&self, other: &SimpleId) -> bool {
         same_simple_id(self, other)
     }
@@ -203,7 +203,7 @@ impl PartialEq for BaseUnresolvedName {
 
     ghost laws = { on_per tree_of_base_unresolved_name (partial_equiv_from_equiv same_equiv) };
 
-    #[tactic(auto, using(crate::proofs::Same::and_true))]
+    #[tactic(auto, using(demangle_leaf_nodes::proofs::Same::and_true))]
     fn eq(&self, other: &BaseUnresolvedName) -> bool {
         same_base_unresolved_name(self, other)
     }
@@ -218,7 +218,7 @@ impl PartialEq for DestructorName {
 
     ghost laws = { on_per tree_of_destructor_name (partial_equiv_from_equiv same_equiv) };
 
-    #[tactic(auto, using(crate::proofs::Same::and_true))]
+    #[tactic(auto, using(demangle_leaf_nodes::proofs::Same::and_true))]
     fn eq(&self, other: &DestructorName) -> bool {
         same_destructor_name(self, other)
     }
@@ -233,7 +233,7 @@ impl PartialEq for ExprPrimary {
 
     ghost laws = { on_per tree_of_expr_primary (partial_equiv_from_equiv same_equiv) };
 
-    #[tactic(auto, using(crate::proofs::Same::and_true))]
+    #[tactic(auto, using(demangle_leaf_nodes::proofs::Same::and_true))]
     fn eq(&self, other: &ExprPrimary) -> bool {
         same_expr_primary(self, other)
     }
@@ -248,7 +248,7 @@ impl PartialEq for LocalName {
 
     ghost laws = { on_per tree_of_local_name (partial_equiv_from_equiv same_equiv) };
 
-    #[tactic(auto, using(crate::proofs::Same::and_true))]
+    #[tactic(auto, using(demangle_leaf_nodes::proofs::Same::and_true))]
     fn eq(&self, other: &LocalName) -> bool {
         same_local_name(self, other)
     }
@@ -263,7 +263,7 @@ impl PartialEq for SpecialName {
 
     ghost laws = { on_per tree_of_special_name (partial_equiv_from_equiv same_equiv) };
 
-    #[tactic(auto, using(crate::proofs::Same::and_true))]
+    #[tactic(auto, using(demangle_leaf_nodes::proofs::Same::and_true))]
     fn eq(&self, other: &SpecialName) -> bool {
         same_special_name(self, other)
     }
@@ -278,7 +278,7 @@ impl PartialEq for SubobjectExpr {
 
     ghost laws = { on_per tree_of_subobject_expr (partial_equiv_from_equiv same_equiv) };
 
-    #[tactic(auto, using(crate::proofs::Same::and_true))]
+    #[tactic(auto, using(demangle_leaf_nodes::proofs::Same::and_true))]
     fn eq(&self, other: &SubobjectExpr) -> bool {
         same_subobject_expr(self, other)
     }
@@ -293,7 +293,7 @@ impl PartialEq for FoldExpr {
 
     ghost laws = { on_per tree_of_fold_expr (partial_equiv_from_equiv same_equiv) };
 
-    #[tactic(auto, using(crate::proofs::Same::and_true))]
+    #[tactic(auto, using(demangle_leaf_nodes::proofs::Same::and_true))]
     fn eq(&self, other: &FoldExpr) -> bool {
         same_fold_expr(self, other)
     }

@@ -3,18 +3,18 @@
 ghost use Rattle.std.specs.Prelude.{◌≡◌, pos};
 ghost use Rattle.std.specs.Ordering.{int_eq};
 ghost use Rattle.demangle_core.specs.Core.{same, alike, trees};
-ghost use Rattle.demangle_nodes.specs.TreeLeaves.{parts_of_clone_suffix, parts_of_option, parts_of_resource_name, tag_of_clone_suffix, tag_of_option, tag_of_resource_name, tree_of_discriminator, tree_of_option, tree_of_signed};
+ghost use Rattle.demangle_leaf_nodes.specs.TreeLeaves.{parts_of_clone_suffix, parts_of_option, parts_of_resource_name, tag_of_clone_suffix, tag_of_option, tag_of_resource_name, tree_of_discriminator, tree_of_option, tree_of_signed};
 ghost use Rattle.demangle_nodes.specs.TreeNodes.{boxed_name, parts_of_base_unresolved_name, parts_of_destructor_name, parts_of_encoding, parts_of_expr_primary, parts_of_expression, parts_of_fold_expr, parts_of_global_ctor_dtor, parts_of_initializer, parts_of_local_name, parts_of_mangled_name, parts_of_member_name, parts_of_name, parts_of_simple_id, parts_of_special_name, parts_of_subobject_expr, parts_of_template_arg, parts_of_template_args, parts_of_unresolved_name, parts_of_unresolved_qualifier_level, tag_of_base_unresolved_name, tag_of_destructor_name, tag_of_encoding, tag_of_expr_primary, tag_of_expression, tag_of_fold_expr, tag_of_global_ctor_dtor, tag_of_local_name, tag_of_mangled_name, tag_of_name, tag_of_special_name, tag_of_template_arg, tag_of_unresolved_name, tag_of_unresolved_qualifier_level, tree_of_initializer, tree_of_template_args};
 
-use crate::leaves::{CloneSuffix, Discriminator, ResourceName};
 use crate::nodes::{
     BaseUnresolvedName, DestructorName, Encoding, ExprPrimary, Expression, FoldExpr,
     GlobalCtorDtor, Initializer, LocalName, MangledName, MemberName, Name, SimpleId, SpecialName,
     SubobjectExpr, TemplateArg, TemplateArgs, UnresolvedName, UnresolvedQualifierLevel,
 };
+use demangle_leaf_nodes::{CloneSuffix, Discriminator, ResourceName};
 
 #[cycle(same)]
-#[tactic(auto, using(crate::proofs::Parts::parts_mangled_name, crate::proofs::Same::and_true))]
+#[tactic(auto, using(crate::proofs::Parts::parts_mangled_name, demangle_leaf_nodes::proofs::Same::and_true))]
 pub(crate) fn same_mangled_name(x: &MangledName, y: &MangledName) -> bool
     ensures { result ≡ alike (tag_of_mangled_name x.now) (tag_of_mangled_name y.now) (same (parts_of_mangled_name x.now) (parts_of_mangled_name y.now)) }
 {
@@ -41,7 +41,7 @@ pub(crate) fn same_mangled_name(x: &MangledName, y: &MangledName) -> bool
 }
 
 #[cycle(same)]
-#[tactic(auto, using(crate::proofs::Parts::parts_encoding, crate::proofs::Same::and_true))]
+#[tactic(auto, using(crate::proofs::Parts::parts_encoding, demangle_leaf_nodes::proofs::Same::and_true))]
 pub(crate) fn same_encoding(x: &Encoding, y: &Encoding) -> bool
     ensures { result ≡ alike (tag_of_encoding x.now) (tag_of_encoding y.now) (same (parts_of_encoding x.now) (parts_of_encoding y.now)) }
 {
@@ -62,7 +62,7 @@ pub(crate) fn same_encoding(x: &Encoding, y: &Encoding) -> bool
 }
 
 #[cycle(same)]
-#[tactic(auto, using(crate::proofs::Parts::parts_global_ctor_dtor, crate::proofs::Same::and_true))]
+#[tactic(auto, using(crate::proofs::Parts::parts_global_ctor_dtor, demangle_leaf_nodes::proofs::Same::and_true))]
 pub(crate) fn same_global_ctor_dtor(x: &GlobalCtorDtor, y: &GlobalCtorDtor) -> bool
     ensures { result ≡ alike (tag_of_global_ctor_dtor x.now) (tag_of_global_ctor_dtor y.now) (same (parts_of_global_ctor_dtor x.now) (parts_of_global_ctor_dtor y.now)) }
 {
@@ -79,7 +79,7 @@ pub(crate) fn same_global_ctor_dtor(x: &GlobalCtorDtor, y: &GlobalCtorDtor) -> b
 }
 
 #[cycle(same)]
-#[tactic(auto, using(crate::proofs::Parts::parts_name, crate::proofs::Same::and_true))]
+#[tactic(auto, using(crate::proofs::Parts::parts_name, demangle_leaf_nodes::proofs::Same::and_true))]
 pub(crate) fn same_name(x: &Name, y: &Name) -> bool
     ensures { result ≡ alike (tag_of_name x.now) (tag_of_name y.now) (same (parts_of_name x.now) (parts_of_name y.now)) }
 {
@@ -105,7 +105,7 @@ pub(crate) fn same_name(x: &Name, y: &Name) -> bool
 }
 
 #[cycle(same)]
-#[tactic(auto, using(crate::proofs::Same::and_true))]
+#[tactic(auto, using(demangle_leaf_nodes::proofs::Same::and_true))]
 pub(crate) fn same_template_args(x: &TemplateArgs, y: &TemplateArgs) -> bool
     ensures { result ≡ same (parts_of_template_args x.now) (parts_of_template_args y.now) }
 {
@@ -113,7 +113,7 @@ pub(crate) fn same_template_args(x: &TemplateArgs, y: &TemplateArgs) -> bool
 }
 
 #[cycle(same)]
-#[tactic(auto, using(crate::proofs::Parts::parts_template_arg, crate::proofs::Same::and_true))]
+#[tactic(auto, using(crate::proofs::Parts::parts_template_arg, demangle_leaf_nodes::proofs::Same::and_true))]
 pub(crate) fn same_template_arg(x: &TemplateArg, y: &TemplateArg) -> bool
     ensures { result ≡ alike (tag_of_template_arg x.now) (tag_of_template_arg y.now) (same (parts_of_template_arg x.now) (parts_of_template_arg y.now)) }
 {
@@ -138,7 +138,7 @@ pub(crate) fn same_template_arg(x: &TemplateArg, y: &TemplateArg) -> bool
 }
 
 #[cycle(same)]
-#[tactic(auto, using(crate::proofs::Same::and_true))]
+#[tactic(auto, using(demangle_leaf_nodes::proofs::Same::and_true))]
 pub(crate) fn same_member_name(x: &MemberName, y: &MemberName) -> bool
     ensures { result ≡ same (parts_of_member_name x.now) (parts_of_member_name y.now) }
 {
@@ -146,7 +146,7 @@ pub(crate) fn same_member_name(x: &MemberName, y: &MemberName) -> bool
 }
 
 #[cycle(same)]
-#[tactic(auto, using(crate::proofs::Same::and_true))]
+#[tactic(auto, using(demangle_leaf_nodes::proofs::Same::and_true))]
 pub(crate) fn same_initializer(x: &Initializer, y: &Initializer) -> bool
     ensures { result ≡ same (parts_of_initializer x.now) (parts_of_initializer y.now) }
 {
@@ -154,7 +154,7 @@ pub(crate) fn same_initializer(x: &Initializer, y: &Initializer) -> bool
 }
 
 #[cycle(same)]
-#[tactic(auto, using(crate::proofs::Parts::parts_expression, crate::proofs::Same::and_true))]
+#[tactic(auto, using(crate::proofs::Parts::parts_expression, demangle_leaf_nodes::proofs::Same::and_true))]
 pub(crate) fn same_expression(x: &Expression, y: &Expression) -> bool
     ensures { result ≡ alike (tag_of_expression x.now) (tag_of_expression y.now) (same (parts_of_expression x.now) (parts_of_expression y.now)) }
 {
@@ -355,7 +355,7 @@ pub(crate) fn same_expression(x: &Expression, y: &Expression) -> bool
 }
 
 #[cycle(same)]
-#[tactic(auto, using(crate::proofs::Parts::parts_unresolved_name, crate::proofs::Same::and_true))]
+#[tactic(auto, using(crate::proofs::Parts::parts_unresolved_name, demangle_leaf_nodes::proofs::Same::and_true))]
 pub(crate) fn same_unresolved_name(x: &UnresolvedName, y: &UnresolvedName) -> bool
     ensures { result ≡ alike (tag_of_unresolved_name x.now) (tag_of_unresolved_name y.now) (same (parts_of_unresolved_name x.now) (parts_of_unresolved_name y.now)) }
 {
@@ -387,7 +387,7 @@ pub(crate) fn same_unresolved_name(x: &UnresolvedName, y: &UnresolvedName) -> bo
 }
 
 #[cycle(same)]
-#[tactic(auto, using(crate::proofs::Parts::parts_unresolved_qualifier_level, crate::proofs::Same::and_true))]
+#[tactic(auto, using(crate::proofs::Parts::parts_unresolved_qualifier_level, demangle_leaf_nodes::proofs::Same::and_true))]
 pub(crate) fn same_unresolved_qualifier_level(
     x: &UnresolvedQualifierLevel,
     y: &UnresolvedQualifierLevel,
@@ -398,7 +398,7 @@ pub(crate) fn same_unresolved_qualifier_level(
 }
 
 #[cycle(same)]
-#[tactic(auto, using(crate::proofs::Parts::parts_simple_id, crate::proofs::Same::and_true))]
+#[tactic(auto, using(crate::proofs::Parts::parts_simple_id, demangle_leaf_nodes::proofs::Same::and_true))]
 pub(crate) fn same_simple_id(x: &SimpleId, y: &SimpleId) -> bool
     ensures { result ≡ same (parts_of_simple_id x.now) (parts_of_simple_id y.now) }
 {
@@ -406,7 +406,7 @@ pub(crate) fn same_simple_id(x: &SimpleId, y: &SimpleId) -> bool
 }
 
 #[cycle(same)]
-#[tactic(auto, using(crate::proofs::Parts::parts_base_unresolved_name, crate::proofs::Same::and_true))]
+#[tactic(auto, using(crate::proofs::Parts::parts_base_unresolved_name, demangle_leaf_nodes::proofs::Same::and_true))]
 pub(crate) fn same_base_unresolved_name(x: &BaseUnresolvedName, y: &BaseUnresolvedName) -> bool
     ensures { result ≡ alike (tag_of_base_unresolved_name x.now) (tag_of_base_unresolved_name y.now) (same (parts_of_base_unresolved_name x.now) (parts_of_base_unresolved_name y.now)) }
 {
@@ -428,7 +428,7 @@ pub(crate) fn same_base_unresolved_name(x: &BaseUnresolvedName, y: &BaseUnresolv
 }
 
 #[cycle(same)]
-#[tactic(auto, using(crate::proofs::Parts::parts_destructor_name, crate::proofs::Same::and_true))]
+#[tactic(auto, using(crate::proofs::Parts::parts_destructor_name, demangle_leaf_nodes::proofs::Same::and_true))]
 pub(crate) fn same_destructor_name(x: &DestructorName, y: &DestructorName) -> bool
     ensures { result ≡ alike (tag_of_destructor_name x.now) (tag_of_destructor_name y.now) (same (parts_of_destructor_name x.now) (parts_of_destructor_name y.now)) }
 {
@@ -445,7 +445,7 @@ pub(crate) fn same_destructor_name(x: &DestructorName, y: &DestructorName) -> bo
 }
 
 #[cycle(same)]
-#[tactic(auto, using(crate::proofs::Parts::parts_expr_primary, crate::proofs::Same::and_true))]
+#[tactic(auto, using(crate::proofs::Parts::parts_expr_primary, demangle_leaf_nodes::proofs::Same::and_true))]
 pub(crate) fn same_expr_primary(x: &ExprPrimary, y: &ExprPrimary) -> bool
     ensures { result ≡ alike (tag_of_expr_primary x.now) (tag_of_expr_primary y.now) (same (parts_of_expr_primary x.now) (parts_of_expr_primary y.now)) }
 {
@@ -463,7 +463,7 @@ pub(crate) fn same_expr_primary(x: &ExprPrimary, y: &ExprPrimary) -> bool
 }
 
 #[cycle(same)]
-#[tactic(auto, using(crate::proofs::Parts::parts_local_name, crate::proofs::Same::and_true))]
+#[tactic(auto, using(crate::proofs::Parts::parts_local_name, demangle_leaf_nodes::proofs::Same::and_true))]
 pub(crate) fn same_local_name(x: &LocalName, y: &LocalName) -> bool
     ensures { result ≡ alike (tag_of_local_name x.now) (tag_of_local_name y.now) (same (parts_of_local_name x.now) (parts_of_local_name y.now)) }
 {
@@ -482,7 +482,7 @@ pub(crate) fn same_local_name(x: &LocalName, y: &LocalName) -> bool
 }
 
 #[cycle(same)]
-#[tactic(auto, using(crate::proofs::Parts::parts_special_name, crate::proofs::Same::and_true))]
+#[tactic(auto, using(crate::proofs::Parts::parts_special_name, demangle_leaf_nodes::proofs::Same::and_true))]
 pub(crate) fn same_special_name(x: &SpecialName, y: &SpecialName) -> bool
     ensures { result ≡ alike (tag_of_special_name x.now) (tag_of_special_name y.now) (same (parts_of_special_name x.now) (parts_of_special_name y.now)) }
 {
@@ -554,7 +554,7 @@ pub(crate) fn same_special_name(x: &SpecialName, y: &SpecialName) -> bool
 }
 
 #[cycle(same)]
-#[tactic(auto, using(crate::proofs::Same::and_true))]
+#[tactic(auto, using(demangle_leaf_nodes::proofs::Same::and_true))]
 pub(crate) fn same_subobject_expr(x: &SubobjectExpr, y: &SubobjectExpr) -> bool
     ensures { result ≡ same (parts_of_subobject_expr x.now) (parts_of_subobject_expr y.now) }
 {
@@ -562,7 +562,7 @@ pub(crate) fn same_subobject_expr(x: &SubobjectExpr, y: &SubobjectExpr) -> bool
 }
 
 #[cycle(same)]
-#[tactic(auto, using(crate::proofs::Parts::parts_fold_expr, crate::proofs::Same::and_true))]
+#[tactic(auto, using(crate::proofs::Parts::parts_fold_expr, demangle_leaf_nodes::proofs::Same::and_true))]
 pub(crate) fn same_fold_expr(x: &FoldExpr, y: &FoldExpr) -> bool
     ensures { result ≡ alike (tag_of_fold_expr x.now) (tag_of_fold_expr y.now) (same (parts_of_fold_expr x.now) (parts_of_fold_expr y.now)) }
 {
@@ -591,7 +591,7 @@ pub(crate) fn same_fold_expr(x: &FoldExpr, y: &FoldExpr) -> bool
 }
 
 #[cycle(same)]
-#[tactic(auto, using(crate::proofs::Same::lengths_differ, crate::proofs::Same::and_true))]
+#[tactic(auto, using(demangle_leaf_nodes::proofs::Same::lengths_differ, demangle_leaf_nodes::proofs::Same::and_true))]
 fn same_expressions(xs: &[Expression], ys: &[Expression]) -> bool
     ensures { result ≡ same (trees tag_of_expression parts_of_expression xs.now) (trees tag_of_expression parts_of_expression ys.now) }
 {
@@ -607,7 +607,7 @@ fn same_expressions(xs: &[Expression], ys: &[Expression]) -> bool
 }
 
 #[cycle(same)]
-#[tactic(auto, using(crate::proofs::Same::lengths_differ, crate::proofs::Same::and_true))]
+#[tactic(auto, using(demangle_leaf_nodes::proofs::Same::lengths_differ, demangle_leaf_nodes::proofs::Same::and_true))]
 fn same_argument_list(xs: &[TemplateArg], ys: &[TemplateArg]) -> bool
     ensures { result ≡ same (trees tag_of_template_arg parts_of_template_arg xs.now) (trees tag_of_template_arg parts_of_template_arg ys.now) }
 {
@@ -623,7 +623,7 @@ fn same_argument_list(xs: &[TemplateArg], ys: &[TemplateArg]) -> bool
 }
 
 #[cycle(same)]
-#[tactic(auto, using(crate::proofs::Same::lengths_differ, crate::proofs::Same::and_true))]
+#[tactic(auto, using(demangle_leaf_nodes::proofs::Same::lengths_differ, demangle_leaf_nodes::proofs::Same::and_true))]
 fn same_qualifier_levels(xs: &[UnresolvedQualifierLevel], ys: &[UnresolvedQualifierLevel]) -> bool
     ensures { result ≡ same (trees tag_of_unresolved_qualifier_level parts_of_unresolved_qualifier_level xs.now) (trees tag_of_unresolved_qualifier_level parts_of_unresolved_qualifier_level ys.now) }
 {
@@ -639,7 +639,7 @@ fn same_qualifier_levels(xs: &[UnresolvedQualifierLevel], ys: &[UnresolvedQualif
 }
 
 #[cycle(same)]
-#[tactic(auto, using(crate::proofs::Same::and_true))]
+#[tactic(auto, using(demangle_leaf_nodes::proofs::Same::and_true))]
 fn same_optional_name(x: &Option<Box<Name>>, y: &Option<Box<Name>>) -> bool
     ensures { result ≡ alike (tag_of_option x.now) (tag_of_option y.now) (same (parts_of_option boxed_name x.now) (parts_of_option boxed_name y.now)) }
 {
@@ -653,7 +653,7 @@ fn same_optional_name(x: &Option<Box<Name>>, y: &Option<Box<Name>>) -> bool
 }
 
 #[cycle(same)]
-#[tactic(auto, using(crate::proofs::Same::and_true))]
+#[tactic(auto, using(demangle_leaf_nodes::proofs::Same::and_true))]
 fn same_optional_template_args(x: &Option<TemplateArgs>, y: &Option<TemplateArgs>) -> bool
     ensures { result ≡ alike (tag_of_option x.now) (tag_of_option y.now) (same (parts_of_option tree_of_template_args x.now) (parts_of_option tree_of_template_args y.now)) }
 {
@@ -667,7 +667,7 @@ fn same_optional_template_args(x: &Option<TemplateArgs>, y: &Option<TemplateArgs
 }
 
 #[cycle(same)]
-#[tactic(auto, using(crate::proofs::Same::and_true))]
+#[tactic(auto, using(demangle_leaf_nodes::proofs::Same::and_true))]
 fn same_optional_initializer(x: &Option<Initializer>, y: &Option<Initializer>) -> bool
     ensures { result ≡ alike (tag_of_option x.now) (tag_of_option y.now) (same (parts_of_option tree_of_initializer x.now) (parts_of_option tree_of_initializer y.now)) }
 {
@@ -680,7 +680,7 @@ fn same_optional_initializer(x: &Option<Initializer>, y: &Option<Initializer>) -
     }
 }
 
-#[tactic(auto, using(crate::proofs::Same::and_true))]
+#[tactic(auto, using(demangle_leaf_nodes::proofs::Same::and_true))]
 fn same_optional_isize(x: &Option<isize>, y: &Option<isize>) -> bool
     ensures { result ≡ alike (tag_of_option x.now) (tag_of_option y.now) (same (parts_of_option tree_of_signed x.now) (parts_of_option tree_of_signed y.now)) }
 {
@@ -701,7 +701,7 @@ fn same_isize(x: &isize, y: &isize) -> bool
 }
 
 /// The same of an index or a length.
-#[tactic(auto, using(crate::proofs::Same::naturals))]
+#[tactic(auto, using(demangle_leaf_nodes::proofs::Same::naturals))]
 fn same_usize(x: &usize, y: &usize) -> bool
     ensures { result ≡ int_eq (pos x.now) (pos y.now) }
 {
@@ -720,7 +720,7 @@ fn same_resource_names(xs: &[ResourceName], ys: &[ResourceName]) -> bool
     xs == ys
 }
 
-#[tactic(auto, using(crate::proofs::Same::rows))]
+#[tactic(auto, using(demangle_leaf_nodes::proofs::Same::rows))]
 fn same_optional_discriminator(x: &Option<Discriminator>, y: &Option<Discriminator>) -> bool
     ensures { result ≡ same (tree_of_option tree_of_discriminator x.now) (tree_of_option tree_of_discriminator y.now) }
 {

@@ -8,7 +8,7 @@ use Rattle.demangle_tree.specs.declared.steps.ArgsStep.TheVariants as of_args_st
 use Rattle.demangle_tree.specs.declared.steps.SpecialStep.{SpecialStep}
 use Rattle.demangle_tree.specs.declared.steps.SpecialStep.TheVariants as of_special_step
 use Rattle.demangle_nodes.specs.TreeNodes.{tree_of_template_args}
-use Rattle.demangle_nodes.specs.TreeEntries.{tree_of_leaf_name}
+use Rattle.demangle_leaf_nodes.specs.TreeLeaves.{tree_of_leaf_name}
 
 abbrev pub next_of : LeafStep → Next
 next_of (of_leaf_step.Answer x) = answer (tree_of_leaf_name x)

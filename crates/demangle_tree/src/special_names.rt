@@ -6,7 +6,7 @@ ghost use Rattle.demangle_core.specs.Table.{size};
 ghost use Rattle.demangle_tree.specs.Lookups.{after, is_special, resolve, special_step};
 ghost use Rattle.demangle_tree.specs.LookupsOf.{special_next};
 ghost use Rattle.demangle_table.specs.TableOf.{table_of};
-ghost use Rattle.demangle_nodes.specs.TreeLeaves.{tree_of_nested_name, tree_of_prefix_handle, tree_of_unqualified_name, tree_of_unscoped_name};
+ghost use Rattle.demangle_leaf_nodes.specs.TreeLeaves.{tree_of_nested_name, tree_of_prefix_handle, tree_of_unqualified_name, tree_of_unscoped_name};
 ghost use Rattle.demangle_nodes.specs.TreeNodes.{tree_of_name};
 ghost use Rattle.demangle_nodes.specs.TreeEntries.{tree_of_prefix, tree_of_substitutable};
 

@@ -17,7 +17,7 @@ pub(crate) enum LeafStep<'a> {
 
 impl<'a> LeafStep<'a> {
     ghost use Rattle.demangle_tree.specs.LookupsOf.{next_of};
-    ghost use Rattle.demangle_nodes.specs.TreeEntries.{tree_of_leaf_name};
+    ghost use Rattle.demangle_leaf_nodes.specs.TreeLeaves.{tree_of_leaf_name};
 
     pub(crate) fn refers(&self) -> bool
         ensures { result ≡ refers (next_of self.now) }

@@ -1,6 +1,6 @@
 use Rattle.std.proofs.Common.{rules}
 use Rattle.std.proofs.lemmas.List.{take_more}
-use Rattle.demangle_nodes.specs.TreeLeaves.{parts_of_clone_suffix, tag_of_clone_suffix}
+use Rattle.demangle_leaf_nodes.specs.TreeLeaves.{parts_of_clone_suffix, tag_of_clone_suffix}
 use Rattle.demangle_copies.proofs.Copies.{one_more}
 use Rattle.demangle_copies.proofs.leaves.clone_suffixes.Goals as goal
 

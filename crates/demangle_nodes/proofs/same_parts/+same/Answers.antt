@@ -1,6 +1,6 @@
 use Rattle.std.proofs.Common.{sym}
 use Rattle.demangle_nodes.proofs.Parts.{local_name_relative}
-use Rattle.demangle_nodes.proofs.Same.{last_of_three}
+use Rattle.demangle_leaf_nodes.proofs.Same.{last_of_three}
 use Rattle.demangle_nodes.proofs.same_parts.+same.Goals as goal
 
 pub same_local_name-returns-then-same_optional_name : goal.same_local_name-returns-then-same_optional_name

@@ -1,6 +1,6 @@
 use Rattle.std.proofs.Common.{◌∙◌}
-use Rattle.demangle_nodes.specs.TreeLeaves.{tag_of_resource_name, parts_of_resource_name}
-use Rattle.demangle_nodes.proofs.Same.{list_of_trees}
+use Rattle.demangle_leaf_nodes.specs.TreeLeaves.{tag_of_resource_name, parts_of_resource_name}
+use Rattle.demangle_leaf_nodes.proofs.Same.{list_of_trees}
 use Rattle.demangle_nodes.proofs.same_parts.same_resource_names.Goals as goal
 
 pub returns : goal.returns

@@ -5,7 +5,7 @@ use Rattle.std.specs.Option.{option_eq}
 use Rattle.std.specs.Cmp.Lexicographic.{pointwise}
 use Rattle.std.proofs.Common.{rules}
 use Rattle.std.specs.Prelude.{nat_eq, pos, Option, Some, None}
-use Rattle.demangle_nodes.specs.TreeLeaves.{tree_of_option, tree_of_number}
+use Rattle.demangle_leaf_nodes.specs.TreeLeaves.{tree_of_option, tree_of_number}
 use Rattle.demangle_core.specs.Core.{Core, Tag, end, node, trees, numbers, same, alike}
 
 -- ---- rows

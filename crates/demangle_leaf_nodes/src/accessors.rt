@@ -2,7 +2,7 @@
 
 ghost use Rattle.std.specs.Prelude.{◌≡◌, option_map};
 ghost use Rattle.demangle_core.specs.Fields.{explicit_object_of, qualifiers_of, ref_qualifier_of, reference_of};
-ghost use Rattle.demangle_nodes.specs.TreeLeaves.{tree_of_prefix_handle, tree_of_unscoped_template_name_handle, tree_of_template_template_param_handle, tree_of_unresolved_type_handle, tree_of_type_handle, tree_of_nested_name, tree_of_cv_qualifiers, tree_of_ref_qualifier};
+ghost use Rattle.demangle_leaf_nodes.specs.TreeLeaves.{tree_of_prefix_handle, tree_of_unscoped_template_name_handle, tree_of_template_template_param_handle, tree_of_unresolved_type_handle, tree_of_type_handle, tree_of_nested_name, tree_of_cv_qualifiers, tree_of_ref_qualifier};
 
 use crate::leaves::{
     CvQualifiers, NestedName, PrefixHandle, TemplateTemplateParamHandle, TypeHandle,

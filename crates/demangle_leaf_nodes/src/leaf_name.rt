@@ -1,11 +1,22 @@
-//! Equality of what a leaf name borrows: that of the trees.
+//! What a leaf name borrows, and its equality: that of the trees.
 
 ghost use Rattle.std.specs.Cmp.{on_per, on_equiv, partial_equiv_from_equiv};
 ghost use Rattle.demangle_core.specs.Core.{same};
 ghost use Rattle.demangle_core.specs.Same.{same_equiv};
-ghost use Rattle.demangle_nodes.specs.TreeEntries.{tree_of_leaf_name};
+ghost use Rattle.demangle_leaf_nodes.specs.TreeLeaves.{tree_of_leaf_name};
 
-use crate::entries::LeafName;
+use crate::leaves::{ClosureTypeName, SourceName, UnnamedTypeName};
+use demangle_vocab::WellKnownComponent;
+
+/// The last identifier of a name, which a constructor, a destructor or a member function takes over from its class. The
+/// original's type of this name.
+#[derive(Clone, Copy, Debug)]
+pub enum LeafName<'a> {
+    SourceName(&'a SourceName),
+    WellKnownComponent(&'a WellKnownComponent),
+    Closure(&'a ClosureTypeName),
+    UnnamedType(&'a UnnamedTypeName),
+}
 
 impl<'a> PartialEq for LeafName<'a> {
     ghost eq = { λ a b. same (tree_of_leaf_name a) (tree_of_leaf_name b) };

@@ -13,58 +13,60 @@ use Rattle.demangle_vocab.specs.Operators.{number_of_operator}
 use Rattle.demangle_vocab.specs.Builtins.{number_of_builtin}
 use Rattle.demangle_vocab.specs.Components.{number_of_component}
 use Rattle.demangle_vocab.specs.Qualifiers.{number_of_ref_qualifier, number_of_explicit_object}
-use Rattle.demangle_nodes.specs.declared.leaves.NonSubstitution.{NonSubstitution}
-use Rattle.demangle_nodes.specs.declared.leaves.SeqId.{SeqId}
-use Rattle.demangle_nodes.specs.declared.leaves.TemplateParam.{TemplateParam}
-use Rattle.demangle_nodes.specs.declared.leaves.Discriminator.{Discriminator}
-use Rattle.demangle_nodes.specs.declared.leaves.Identifier.{Identifier}
-use Rattle.demangle_nodes.specs.declared.leaves.CloneTypeIdentifier.{CloneTypeIdentifier}
-use Rattle.demangle_nodes.specs.declared.leaves.ResourceName.{ResourceName}
-use Rattle.demangle_nodes.specs.declared.leaves.SourceName.{SourceName}
-use Rattle.demangle_nodes.specs.declared.leaves.AbiTag.{AbiTag}
-use Rattle.demangle_nodes.specs.declared.leaves.AbiTags.{AbiTags}
-use Rattle.demangle_nodes.specs.declared.leaves.DataMemberPrefix.{DataMemberPrefix}
-use Rattle.demangle_nodes.specs.declared.leaves.CloneSuffix.{CloneSuffix}
-use Rattle.demangle_nodes.specs.declared.leaves.CvQualifiers.{CvQualifiers}
-use Rattle.demangle_nodes.specs.declared.leaves.NvOffset.{NvOffset}
-use Rattle.demangle_nodes.specs.declared.leaves.VOffset.{VOffset}
-use Rattle.demangle_nodes.specs.declared.leaves.CallOffset.{CallOffset}
-use Rattle.demangle_nodes.specs.declared.leaves.CallOffset.TheVariants as of_call_offset
-use Rattle.demangle_nodes.specs.declared.leaves.FunctionParam.{FunctionParam}
-use Rattle.demangle_nodes.specs.declared.leaves.TemplateTemplateParam.{TemplateTemplateParam}
-use Rattle.demangle_nodes.specs.declared.leaves.UnnamedTypeName.{UnnamedTypeName}
-use Rattle.demangle_nodes.specs.declared.leaves.Substitution.{Substitution}
-use Rattle.demangle_nodes.specs.declared.leaves.Substitution.TheVariants as of_substitution
-use Rattle.demangle_nodes.specs.declared.leaves.PrefixHandle.{PrefixHandle}
-use Rattle.demangle_nodes.specs.declared.leaves.PrefixHandle.TheVariants as of_prefix_handle
-use Rattle.demangle_nodes.specs.declared.leaves.UnscopedTemplateNameHandle.{UnscopedTemplateNameHandle}
-use Rattle.demangle_nodes.specs.declared.leaves.UnscopedTemplateNameHandle.TheVariants as of_unscoped_template_name_handle
-use Rattle.demangle_nodes.specs.declared.leaves.TemplateTemplateParamHandle.{TemplateTemplateParamHandle}
-use Rattle.demangle_nodes.specs.declared.leaves.TemplateTemplateParamHandle.TheVariants as of_template_template_param_handle
-use Rattle.demangle_nodes.specs.declared.leaves.UnresolvedTypeHandle.{UnresolvedTypeHandle}
-use Rattle.demangle_nodes.specs.declared.leaves.UnresolvedTypeHandle.TheVariants as of_unresolved_type_handle
-use Rattle.demangle_nodes.specs.declared.leaves.ParametricBuiltinType.{ParametricBuiltinType}
-use Rattle.demangle_nodes.specs.declared.leaves.ParametricBuiltinType.TheVariants as of_parametric_builtin_type
-use Rattle.demangle_nodes.specs.declared.leaves.BuiltinType.{BuiltinType}
-use Rattle.demangle_nodes.specs.declared.leaves.BuiltinType.TheVariants as of_builtin_type
-use Rattle.demangle_nodes.specs.declared.leaves.QualifiedBuiltin.{QualifiedBuiltin}
-use Rattle.demangle_nodes.specs.declared.leaves.TypeHandle.{TypeHandle}
-use Rattle.demangle_nodes.specs.declared.leaves.TypeHandle.TheVariants as of_type_handle
-use Rattle.demangle_nodes.specs.declared.leaves.OperatorName.{OperatorName}
-use Rattle.demangle_nodes.specs.declared.leaves.OperatorName.TheVariants as of_operator_name
-use Rattle.demangle_nodes.specs.declared.leaves.CtorDtorName.{CtorDtorName}
-use Rattle.demangle_nodes.specs.declared.leaves.CtorDtorName.TheVariants as of_ctor_dtor_name
-use Rattle.demangle_nodes.specs.declared.leaves.BareFunctionType.{BareFunctionType}
-use Rattle.demangle_nodes.specs.declared.leaves.LambdaSig.{LambdaSig}
-use Rattle.demangle_nodes.specs.declared.leaves.ClosureTypeName.{ClosureTypeName}
-use Rattle.demangle_nodes.specs.declared.leaves.PointerToMemberType.{PointerToMemberType}
-use Rattle.demangle_nodes.specs.declared.leaves.UnqualifiedName.{UnqualifiedName}
-use Rattle.demangle_nodes.specs.declared.leaves.UnqualifiedName.TheVariants as of_unqualified_name
-use Rattle.demangle_nodes.specs.declared.leaves.UnscopedName.{UnscopedName}
-use Rattle.demangle_nodes.specs.declared.leaves.UnscopedName.TheVariants as of_unscoped_name
-use Rattle.demangle_nodes.specs.declared.leaves.UnscopedTemplateName.{UnscopedTemplateName}
-use Rattle.demangle_nodes.specs.declared.leaves.NestedName.{NestedName}
-use Rattle.demangle_nodes.specs.declared.leaves.NestedName.TheVariants as of_nested_name
+use Rattle.demangle_leaf_nodes.specs.declared.leaves.NonSubstitution.{NonSubstitution}
+use Rattle.demangle_leaf_nodes.specs.declared.leaves.SeqId.{SeqId}
+use Rattle.demangle_leaf_nodes.specs.declared.leaves.TemplateParam.{TemplateParam}
+use Rattle.demangle_leaf_nodes.specs.declared.leaves.Discriminator.{Discriminator}
+use Rattle.demangle_leaf_nodes.specs.declared.leaves.Identifier.{Identifier}
+use Rattle.demangle_leaf_nodes.specs.declared.leaves.CloneTypeIdentifier.{CloneTypeIdentifier}
+use Rattle.demangle_leaf_nodes.specs.declared.leaves.ResourceName.{ResourceName}
+use Rattle.demangle_leaf_nodes.specs.declared.leaves.SourceName.{SourceName}
+use Rattle.demangle_leaf_nodes.specs.declared.leaves.AbiTag.{AbiTag}
+use Rattle.demangle_leaf_nodes.specs.declared.leaves.AbiTags.{AbiTags}
+use Rattle.demangle_leaf_nodes.specs.declared.leaves.DataMemberPrefix.{DataMemberPrefix}
+use Rattle.demangle_leaf_nodes.specs.declared.leaves.CloneSuffix.{CloneSuffix}
+use Rattle.demangle_leaf_nodes.specs.declared.leaves.CvQualifiers.{CvQualifiers}
+use Rattle.demangle_leaf_nodes.specs.declared.leaves.NvOffset.{NvOffset}
+use Rattle.demangle_leaf_nodes.specs.declared.leaves.VOffset.{VOffset}
+use Rattle.demangle_leaf_nodes.specs.declared.leaves.CallOffset.{CallOffset}
+use Rattle.demangle_leaf_nodes.specs.declared.leaves.CallOffset.TheVariants as of_call_offset
+use Rattle.demangle_leaf_nodes.specs.declared.leaves.FunctionParam.{FunctionParam}
+use Rattle.demangle_leaf_nodes.specs.declared.leaves.TemplateTemplateParam.{TemplateTemplateParam}
+use Rattle.demangle_leaf_nodes.specs.declared.leaves.UnnamedTypeName.{UnnamedTypeName}
+use Rattle.demangle_leaf_nodes.specs.declared.leaves.Substitution.{Substitution}
+use Rattle.demangle_leaf_nodes.specs.declared.leaves.Substitution.TheVariants as of_substitution
+use Rattle.demangle_leaf_nodes.specs.declared.leaves.PrefixHandle.{PrefixHandle}
+use Rattle.demangle_leaf_nodes.specs.declared.leaves.PrefixHandle.TheVariants as of_prefix_handle
+use Rattle.demangle_leaf_nodes.specs.declared.leaves.UnscopedTemplateNameHandle.{UnscopedTemplateNameHandle}
+use Rattle.demangle_leaf_nodes.specs.declared.leaves.UnscopedTemplateNameHandle.TheVariants as of_unscoped_template_name_handle
+use Rattle.demangle_leaf_nodes.specs.declared.leaves.TemplateTemplateParamHandle.{TemplateTemplateParamHandle}
+use Rattle.demangle_leaf_nodes.specs.declared.leaves.TemplateTemplateParamHandle.TheVariants as of_template_template_param_handle
+use Rattle.demangle_leaf_nodes.specs.declared.leaves.UnresolvedTypeHandle.{UnresolvedTypeHandle}
+use Rattle.demangle_leaf_nodes.specs.declared.leaves.UnresolvedTypeHandle.TheVariants as of_unresolved_type_handle
+use Rattle.demangle_leaf_nodes.specs.declared.leaves.ParametricBuiltinType.{ParametricBuiltinType}
+use Rattle.demangle_leaf_nodes.specs.declared.leaves.ParametricBuiltinType.TheVariants as of_parametric_builtin_type
+use Rattle.demangle_leaf_nodes.specs.declared.leaves.BuiltinType.{BuiltinType}
+use Rattle.demangle_leaf_nodes.specs.declared.leaves.BuiltinType.TheVariants as of_builtin_type
+use Rattle.demangle_leaf_nodes.specs.declared.leaves.QualifiedBuiltin.{QualifiedBuiltin}
+use Rattle.demangle_leaf_nodes.specs.declared.leaves.TypeHandle.{TypeHandle}
+use Rattle.demangle_leaf_nodes.specs.declared.leaves.TypeHandle.TheVariants as of_type_handle
+use Rattle.demangle_leaf_nodes.specs.declared.leaves.OperatorName.{OperatorName}
+use Rattle.demangle_leaf_nodes.specs.declared.leaves.OperatorName.TheVariants as of_operator_name
+use Rattle.demangle_leaf_nodes.specs.declared.leaves.CtorDtorName.{CtorDtorName}
+use Rattle.demangle_leaf_nodes.specs.declared.leaves.CtorDtorName.TheVariants as of_ctor_dtor_name
+use Rattle.demangle_leaf_nodes.specs.declared.leaves.BareFunctionType.{BareFunctionType}
+use Rattle.demangle_leaf_nodes.specs.declared.leaves.LambdaSig.{LambdaSig}
+use Rattle.demangle_leaf_nodes.specs.declared.leaves.ClosureTypeName.{ClosureTypeName}
+use Rattle.demangle_leaf_nodes.specs.declared.leaves.PointerToMemberType.{PointerToMemberType}
+use Rattle.demangle_leaf_nodes.specs.declared.leaves.UnqualifiedName.{UnqualifiedName}
+use Rattle.demangle_leaf_nodes.specs.declared.leaves.UnqualifiedName.TheVariants as of_unqualified_name
+use Rattle.demangle_leaf_nodes.specs.declared.leaves.UnscopedName.{UnscopedName}
+use Rattle.demangle_leaf_nodes.specs.declared.leaves.UnscopedName.TheVariants as of_unscoped_name
+use Rattle.demangle_leaf_nodes.specs.declared.leaves.UnscopedTemplateName.{UnscopedTemplateName}
+use Rattle.demangle_leaf_nodes.specs.declared.leaves.NestedName.{NestedName}
+use Rattle.demangle_leaf_nodes.specs.declared.leaves.NestedName.TheVariants as of_nested_name
+use Rattle.demangle_leaf_nodes.specs.declared.leaf_name.LeafName.{LeafName}
+use Rattle.demangle_leaf_nodes.specs.declared.leaf_name.LeafName.TheVariants as of_leaf_name
 
 -- ---- what a field holds besides nodes
 abbrev pub tree_of_number : ℕ → Core
@@ -518,3 +520,9 @@ parts_of_nested_name (of_nested_name.TemplateExplicitObject a b) = tree_of_prefi
 
 abbrev pub tree_of_nested_name : NestedName → Core
 tree_of_nested_name x = node (tag_of_nested_name x) (parts_of_nested_name x) end
+
+abbrev pub tree_of_leaf_name : LeafName → Core
+tree_of_leaf_name (of_leaf_name.SourceName x) = tree_of_source_name x.now
+tree_of_leaf_name (of_leaf_name.WellKnownComponent x) = tree_of_well_known_component x.now
+tree_of_leaf_name (of_leaf_name.Closure x) = tree_of_closure_type_name x.now
+tree_of_leaf_name (of_leaf_name.UnnamedType x) = tree_of_unnamed_type_name x.now
