@@ -16,8 +16,8 @@ ghost use Rattle.demangle_nodes.specs.TreeEntries.{
   tree_of_vector_type,
 };
 
-use crate::recursion::clone_optional_template_args;
 use crate::try_clone::TryClone;
+use demangle_node_copies::clone_optional_template_args;
 use demangle_nodes::{
     ArrayType, ClassEnumType, Decltype, ExceptionSpec, FunctionType, Prefix, Substitutable,
     TypeNode, UnresolvedType, VectorType,

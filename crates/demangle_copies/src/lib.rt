@@ -4,7 +4,6 @@
 mod entries;
 mod leaves;
 mod nodes;
-mod recursion;
 mod table;
 mod try_clone;
 

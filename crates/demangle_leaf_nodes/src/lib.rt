@@ -2,11 +2,13 @@
 #![tactic(auto)]
 
 mod accessors;
+mod copies;
 mod leaf_name;
 mod leaves;
 mod same_leaves;
 mod same_names;
 
+pub use copies::clone_suffixes;
 pub use leaf_name::LeafName;
 pub use leaves::{
     AbiTag, AbiTags, BareFunctionType, BuiltinType, CallOffset, CloneSuffix, CloneTypeIdentifier,

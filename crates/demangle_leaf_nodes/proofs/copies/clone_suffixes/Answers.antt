@@ -1,8 +1,8 @@
 use Rattle.std.proofs.Common.{rules}
 use Rattle.std.proofs.lemmas.List.{take_more}
 use Rattle.demangle_leaf_nodes.specs.TreeLeaves.{parts_of_clone_suffix, tag_of_clone_suffix}
-use Rattle.demangle_copies.proofs.Copies.{one_more}
-use Rattle.demangle_copies.proofs.leaves.clone_suffixes.Goals as goal
+use Rattle.demangle_leaf_nodes.proofs.Copies.{one_more}
+use Rattle.demangle_leaf_nodes.proofs.copies.clone_suffixes.Goals as goal
 
 pub loop-item-preserved : goal.loop-item-preserved
 loop-item-preserved c = one_more tag_of_clone_suffix parts_of_clone_suffix c.args.items.now c.loop-item.copy.items c.push.new.self.items c.loop-item.item-index c.item-item.result c.in_ok-try_clone.field-0

@@ -43,8 +43,7 @@ ghost use Rattle.demangle_nodes.specs.TreeNodes.{
   tree_of_template_args,
 };
 
-use crate::leaves::clone_suffixes;
-use crate::try_clone::TryClone;
+use demangle_leaf_nodes::clone_suffixes;
 use demangle_nodes::{
     BaseUnresolvedName, DestructorName, Encoding, ExprPrimary, Expression, FoldExpr,
     GlobalCtorDtor, Initializer, LocalName, MangledName, MemberName, Name, SimpleId, SpecialName,
@@ -53,9 +52,10 @@ use demangle_nodes::{
 use demangle_text::Result;
 use std::alloc::Global;
 
+/// A copy with the same tree, `place` included. `OutOfMemory` is its only refusal.
 #[cycle(clone)]
 #[tactic(auto, using(demangle_nodes::proofs::Parts::parts_mangled_name))]
-pub(crate) fn clone_mangled_name(alloc: Global, node: &MangledName) -> Result<MangledName>
+pub fn clone_mangled_name(alloc: Global, node: &MangledName) -> Result<MangledName>
     ensures same_tag { IfOk result (λ r. tag_of_mangled_name r ≡ tag_of_mangled_name node.now) }
     ensures same_parts { IfOk result (λ r. parts_of_mangled_name r ≡ parts_of_mangled_name node.now) }
     ensures refused { IfErr result (λ e. e ≡ OutOfMemory) }
@@ -79,9 +79,10 @@ pub(crate) fn clone_mangled_name(alloc: Global, node: &MangledName) -> Result<Ma
     }
 }
 
+/// A copy with the same tree, `place` included. `OutOfMemory` is its only refusal.
 #[cycle(clone)]
 #[tactic(auto, using(demangle_nodes::proofs::Parts::parts_encoding))]
-pub(crate) fn clone_encoding(alloc: Global, node: &Encoding) -> Result<Encoding>
+pub fn clone_encoding(alloc: Global, node: &Encoding) -> Result<Encoding>
     ensures same_tag { IfOk result (λ r. tag_of_encoding r ≡ tag_of_encoding node.now) }
     ensures same_parts { IfOk result (λ r. parts_of_encoding r ≡ parts_of_encoding node.now) }
     ensures refused { IfErr result (λ e. e ≡ OutOfMemory) }
@@ -99,9 +100,10 @@ pub(crate) fn clone_encoding(alloc: Global, node: &Encoding) -> Result<Encoding>
     }
 }
 
+/// A copy with the same tree, `place` included. `OutOfMemory` is its only refusal.
 #[cycle(clone)]
 #[tactic(auto, using(demangle_nodes::proofs::Parts::parts_global_ctor_dtor))]
-pub(crate) fn clone_global_ctor_dtor(alloc: Global, node: &GlobalCtorDtor) -> Result<GlobalCtorDtor>
+pub fn clone_global_ctor_dtor(alloc: Global, node: &GlobalCtorDtor) -> Result<GlobalCtorDtor>
     ensures same_tag { IfOk result (λ r. tag_of_global_ctor_dtor r ≡ tag_of_global_ctor_dtor node.now) }
     ensures same_parts { IfOk result (λ r. parts_of_global_ctor_dtor r ≡ parts_of_global_ctor_dtor node.now) }
     ensures refused { IfErr result (λ e. e ≡ OutOfMemory) }
@@ -118,9 +120,10 @@ pub(crate) fn clone_global_ctor_dtor(alloc: Global, node: &GlobalCtorDtor) -> Re
     }
 }
 
+/// A copy with the same tree, `place` included. `OutOfMemory` is its only refusal.
 #[cycle(clone)]
 #[tactic(auto, using(demangle_nodes::proofs::Parts::parts_name))]
-pub(crate) fn clone_name(alloc: Global, node: &Name) -> Result<Name>
+pub fn clone_name(alloc: Global, node: &Name) -> Result<Name>
     ensures same_tag { IfOk result (λ r. tag_of_name r ≡ tag_of_name node.now) }
     ensures same_parts { IfOk result (λ r. parts_of_name r ≡ parts_of_name node.now) }
     ensures refused { IfErr result (λ e. e ≡ OutOfMemory) }
@@ -136,17 +139,19 @@ pub(crate) fn clone_name(alloc: Global, node: &Name) -> Result<Name>
     }
 }
 
+/// A copy with the same tree, `place` included. `OutOfMemory` is its only refusal.
 #[cycle(clone)]
-pub(crate) fn clone_template_args(alloc: Global, node: &TemplateArgs) -> Result<TemplateArgs>
+pub fn clone_template_args(alloc: Global, node: &TemplateArgs) -> Result<TemplateArgs>
     ensures same_parts { IfOk result (λ r. parts_of_template_args r ≡ parts_of_template_args node.now) }
     ensures refused { IfErr result (λ e. e ≡ OutOfMemory) }
 {
     Ok(TemplateArgs(clone_template_arg_list(alloc, &node.0)?, node.1))
 }
 
+/// A copy with the same tree, `place` included. `OutOfMemory` is its only refusal.
 #[cycle(clone)]
 #[tactic(auto, using(demangle_nodes::proofs::Parts::parts_template_arg))]
-pub(crate) fn clone_template_arg(alloc: Global, node: &TemplateArg) -> Result<TemplateArg>
+pub fn clone_template_arg(alloc: Global, node: &TemplateArg) -> Result<TemplateArg>
     ensures same_tag { IfOk result (λ r. tag_of_template_arg r ≡ tag_of_template_arg node.now) }
     ensures same_parts { IfOk result (λ r. parts_of_template_arg r ≡ parts_of_template_arg node.now) }
     ensures refused { IfErr result (λ e. e ≡ OutOfMemory) }
@@ -165,25 +170,28 @@ pub(crate) fn clone_template_arg(alloc: Global, node: &TemplateArg) -> Result<Te
     }
 }
 
+/// A copy with the same tree, `place` included. `OutOfMemory` is its only refusal.
 #[cycle(clone)]
-pub(crate) fn clone_member_name(alloc: Global, node: &MemberName) -> Result<MemberName>
+pub fn clone_member_name(alloc: Global, node: &MemberName) -> Result<MemberName>
     ensures same_parts { IfOk result (λ r. parts_of_member_name r ≡ parts_of_member_name node.now) }
     ensures refused { IfErr result (λ e. e ≡ OutOfMemory) }
 {
     Ok(MemberName(boxed(alloc, clone_name(alloc, &node.0))?))
 }
 
+/// A copy with the same tree, `place` included. `OutOfMemory` is its only refusal.
 #[cycle(clone)]
-pub(crate) fn clone_initializer(alloc: Global, node: &Initializer) -> Result<Initializer>
+pub fn clone_initializer(alloc: Global, node: &Initializer) -> Result<Initializer>
     ensures same_parts { IfOk result (λ r. parts_of_initializer r ≡ parts_of_initializer node.now) }
     ensures refused { IfErr result (λ e. e ≡ OutOfMemory) }
 {
     Ok(Initializer(clone_expression_list(alloc, &node.0)?))
 }
 
+/// A copy with the same tree, `place` included. `OutOfMemory` is its only refusal.
 #[cycle(clone)]
 #[tactic(auto, using(demangle_nodes::proofs::Parts::parts_unresolved_name))]
-pub(crate) fn clone_unresolved_name(alloc: Global, node: &UnresolvedName) -> Result<UnresolvedName>
+pub fn clone_unresolved_name(alloc: Global, node: &UnresolvedName) -> Result<UnresolvedName>
     ensures same_tag { IfOk result (λ r. tag_of_unresolved_name r ≡ tag_of_unresolved_name node.now) }
     ensures same_parts { IfOk result (λ r. parts_of_unresolved_name r ≡ parts_of_unresolved_name node.now) }
     ensures refused { IfErr result (λ e. e ≡ OutOfMemory) }
@@ -219,9 +227,10 @@ pub(crate) fn clone_unresolved_name(alloc: Global, node: &UnresolvedName) -> Res
     }
 }
 
+/// A copy with the same tree, `place` included. `OutOfMemory` is its only refusal.
 #[cycle(clone)]
 #[tactic(auto, using(demangle_nodes::proofs::Parts::parts_unresolved_qualifier_level))]
-pub(crate) fn clone_unresolved_qualifier_level(
+pub fn clone_unresolved_qualifier_level(
     alloc: Global,
     node: &UnresolvedQualifierLevel,
 ) -> Result<UnresolvedQualifierLevel>
@@ -231,18 +240,20 @@ pub(crate) fn clone_unresolved_qualifier_level(
     Ok(UnresolvedQualifierLevel(clone_simple_id(alloc, &node.0)?))
 }
 
+/// A copy with the same tree, `place` included. `OutOfMemory` is its only refusal.
 #[cycle(clone)]
 #[tactic(auto, using(demangle_nodes::proofs::Parts::parts_simple_id))]
-pub(crate) fn clone_simple_id(alloc: Global, node: &SimpleId) -> Result<SimpleId>
+pub fn clone_simple_id(alloc: Global, node: &SimpleId) -> Result<SimpleId>
     ensures same_parts { IfOk result (λ r. parts_of_simple_id r ≡ parts_of_simple_id node.now) }
     ensures refused { IfErr result (λ e. e ≡ OutOfMemory) }
 {
     Ok(SimpleId(node.0, clone_optional_template_args(alloc, &node.1)?))
 }
 
+/// A copy with the same tree, `place` included. `OutOfMemory` is its only refusal.
 #[cycle(clone)]
 #[tactic(auto, using(demangle_nodes::proofs::Parts::parts_base_unresolved_name))]
-pub(crate) fn clone_base_unresolved_name(
+pub fn clone_base_unresolved_name(
     alloc: Global,
     node: &BaseUnresolvedName,
 ) -> Result<BaseUnresolvedName>
@@ -264,9 +275,10 @@ pub(crate) fn clone_base_unresolved_name(
     }
 }
 
+/// A copy with the same tree, `place` included. `OutOfMemory` is its only refusal.
 #[cycle(clone)]
 #[tactic(auto, using(demangle_nodes::proofs::Parts::parts_destructor_name))]
-pub(crate) fn clone_destructor_name(alloc: Global, node: &DestructorName) -> Result<DestructorName>
+pub fn clone_destructor_name(alloc: Global, node: &DestructorName) -> Result<DestructorName>
     ensures same_tag { IfOk result (λ r. tag_of_destructor_name r ≡ tag_of_destructor_name node.now) }
     ensures same_parts { IfOk result (λ r. parts_of_destructor_name r ≡ parts_of_destructor_name node.now) }
     ensures refused { IfErr result (λ e. e ≡ OutOfMemory) }
@@ -277,9 +289,10 @@ pub(crate) fn clone_destructor_name(alloc: Global, node: &DestructorName) -> Res
     }
 }
 
+/// A copy with the same tree, `place` included. `OutOfMemory` is its only refusal.
 #[cycle(clone)]
 #[tactic(auto, using(demangle_nodes::proofs::Parts::parts_expr_primary))]
-pub(crate) fn clone_expr_primary(alloc: Global, node: &ExprPrimary) -> Result<ExprPrimary>
+pub fn clone_expr_primary(alloc: Global, node: &ExprPrimary) -> Result<ExprPrimary>
     ensures same_tag { IfOk result (λ r. tag_of_expr_primary r ≡ tag_of_expr_primary node.now) }
     ensures same_parts { IfOk result (λ r. parts_of_expr_primary r ≡ parts_of_expr_primary node.now) }
     ensures refused { IfErr result (λ e. e ≡ OutOfMemory) }
@@ -293,9 +306,10 @@ pub(crate) fn clone_expr_primary(alloc: Global, node: &ExprPrimary) -> Result<Ex
     }
 }
 
+/// A copy with the same tree, `place` included. `OutOfMemory` is its only refusal.
 #[cycle(clone)]
 #[tactic(auto, using(demangle_nodes::proofs::Parts::parts_local_name))]
-pub(crate) fn clone_local_name(alloc: Global, node: &LocalName) -> Result<LocalName>
+pub fn clone_local_name(alloc: Global, node: &LocalName) -> Result<LocalName>
     ensures same_tag { IfOk result (λ r. tag_of_local_name r ≡ tag_of_local_name node.now) }
     ensures same_parts { IfOk result (λ r. parts_of_local_name r ≡ parts_of_local_name node.now) }
     ensures refused { IfErr result (λ e. e ≡ OutOfMemory) }
@@ -318,9 +332,10 @@ pub(crate) fn clone_local_name(alloc: Global, node: &LocalName) -> Result<LocalN
     }
 }
 
+/// A copy with the same tree, `place` included. `OutOfMemory` is its only refusal.
 #[cycle(clone)]
 #[tactic(auto, using(demangle_nodes::proofs::Parts::parts_special_name))]
-pub(crate) fn clone_special_name(alloc: Global, node: &SpecialName) -> Result<SpecialName>
+pub fn clone_special_name(alloc: Global, node: &SpecialName) -> Result<SpecialName>
     ensures same_tag { IfOk result (λ r. tag_of_special_name r ≡ tag_of_special_name node.now) }
     ensures same_parts { IfOk result (λ r. parts_of_special_name r ≡ parts_of_special_name node.now) }
     ensures refused { IfErr result (λ e. e ≡ OutOfMemory) }
@@ -364,8 +379,9 @@ pub(crate) fn clone_special_name(alloc: Global, node: &SpecialName) -> Result<Sp
     }
 }
 
+/// A copy with the same tree, `place` included. `OutOfMemory` is its only refusal.
 #[cycle(clone)]
-pub(crate) fn clone_subobject_expr(alloc: Global, node: &SubobjectExpr) -> Result<SubobjectExpr>
+pub fn clone_subobject_expr(alloc: Global, node: &SubobjectExpr) -> Result<SubobjectExpr>
     ensures same_parts { IfOk result (λ r. parts_of_subobject_expr r ≡ parts_of_subobject_expr node.now) }
     ensures refused { IfErr result (λ e. e ≡ OutOfMemory) }
 {
@@ -377,9 +393,10 @@ pub(crate) fn clone_subobject_expr(alloc: Global, node: &SubobjectExpr) -> Resul
     })
 }
 
+/// A copy with the same tree, `place` included. `OutOfMemory` is its only refusal.
 #[cycle(clone)]
 #[tactic(auto, using(demangle_nodes::proofs::Parts::parts_fold_expr))]
-pub(crate) fn clone_fold_expr(alloc: Global, node: &FoldExpr) -> Result<FoldExpr>
+pub fn clone_fold_expr(alloc: Global, node: &FoldExpr) -> Result<FoldExpr>
     ensures same_tag { IfOk result (λ r. tag_of_fold_expr r ≡ tag_of_fold_expr node.now) }
     ensures same_parts { IfOk result (λ r. parts_of_fold_expr r ≡ parts_of_fold_expr node.now) }
     ensures refused { IfErr result (λ e. e ≡ OutOfMemory) }
@@ -410,9 +427,10 @@ pub(crate) fn clone_fold_expr(alloc: Global, node: &FoldExpr) -> Result<FoldExpr
     }
 }
 
+/// A copy with the same tree, `place` included. `OutOfMemory` is its only refusal.
 #[cycle(clone)]
 #[tactic(auto, using(demangle_nodes::proofs::Parts::parts_expression))]
-pub(crate) fn clone_expression(alloc: Global, node: &Expression) -> Result<Expression>
+pub fn clone_expression(alloc: Global, node: &Expression) -> Result<Expression>
     ensures same_tag { IfOk result (λ r. tag_of_expression r ≡ tag_of_expression node.now) }
     ensures same_parts { IfOk result (λ r. parts_of_expression r ≡ parts_of_expression node.now) }
     ensures refused { IfErr result (λ e. e ≡ OutOfMemory) }
@@ -637,8 +655,9 @@ fn clone_level_list(
     Ok(copy)
 }
 
+/// A copy with the same tree, `place` included. `OutOfMemory` is its only refusal.
 #[cycle(clone)]
-pub(crate) fn clone_optional_template_args(
+pub fn clone_optional_template_args(
     alloc: Global,
     node: &Option<TemplateArgs>,
 ) -> Result<Option<TemplateArgs>>
