@@ -1,7 +1,7 @@
 use Rattle.std.proofs.Common.{rules}
 use Rattle.std.proofs.lemmas.List.{take_more}
 use Rattle.demangle_leaf_nodes.specs.TreeLeaves.{parts_of_clone_suffix, tag_of_clone_suffix}
-use Rattle.demangle_leaf_nodes.proofs.Copies.{one_more}
+use Rattle.demangle_leaf_nodes.proofs.CopiedLists.{one_more}
 use Rattle.demangle_leaf_nodes.proofs.copies.clone_suffixes.Goals as goal
 
 pub loop-item-preserved : goal.loop-item-preserved

@@ -1,7 +1,7 @@
 use Rattle.std.proofs.Common.{rules}
 use Rattle.std.proofs.lemmas.List.{take_more}
 use Rattle.demangle_nodes.specs.TreeNodes.{parts_of_expression, parts_of_template_arg, parts_of_unresolved_qualifier_level, tag_of_expression, tag_of_template_arg, tag_of_unresolved_qualifier_level}
-use Rattle.demangle_leaf_nodes.proofs.Copies.{one_more}
+use Rattle.demangle_leaf_nodes.proofs.CopiedLists.{one_more}
 use Rattle.demangle_node_copies.proofs.recursion.+clone.Goals as goal
 
 pub clone_template_arg_list-loop-item-preserved : goal.clone_template_arg_list-loop-item-preserved
