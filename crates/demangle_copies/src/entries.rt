@@ -3,7 +3,7 @@
 ghost use Rattle.std.specs.Prelude.{◌≡◌, IfOk, IfErr};
 ghost use Rattle.demangle_text.specs.declared.error.Error.TheVariants.{OutOfMemory};
 ghost use Rattle.demangle_leaf_nodes.specs.TreeLeaves.{tree_of_option};
-ghost use Rattle.demangle_nodes.specs.TreeEntries.{
+ghost use Rattle.demangle_entries.specs.TreeEntries.{
   tree_of_array_type,
   tree_of_class_enum_type,
   tree_of_decltype,
@@ -17,11 +17,11 @@ ghost use Rattle.demangle_nodes.specs.TreeEntries.{
 };
 
 use crate::try_clone::TryClone;
-use demangle_node_copies::clone_optional_template_args;
-use demangle_nodes::{
+use demangle_entries::{
     ArrayType, ClassEnumType, Decltype, ExceptionSpec, FunctionType, Prefix, Substitutable,
     TypeNode, UnresolvedType, VectorType,
 };
+use demangle_node_copies::clone_optional_template_args;
 use demangle_text::Result;
 use std::alloc::Global;
 

@@ -14,7 +14,7 @@ ghost use Rattle.demangle_leaf_nodes.specs.TreeLeaves.{
 };
 
 use crate::try_clone::TryClone;
-use demangle_nodes::{
+use demangle_entries::{
     AbiTags, BareFunctionType, CloneSuffix, ClosureTypeName, LambdaSig, NestedName,
     UnqualifiedName, UnscopedName, UnscopedTemplateName,
 };

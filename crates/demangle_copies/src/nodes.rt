@@ -24,17 +24,17 @@ ghost use Rattle.demangle_nodes.specs.TreeNodes.{
 };
 
 use crate::try_clone::TryClone;
+use demangle_entries::{
+    BaseUnresolvedName, DestructorName, Encoding, ExprPrimary, Expression, FoldExpr,
+    GlobalCtorDtor, Initializer, LocalName, MangledName, MemberName, Name, SimpleId, SpecialName,
+    SubobjectExpr, TemplateArg, TemplateArgs, UnresolvedName, UnresolvedQualifierLevel,
+};
 use demangle_node_copies::{
     clone_base_unresolved_name, clone_destructor_name, clone_encoding, clone_expr_primary,
     clone_expression, clone_fold_expr, clone_global_ctor_dtor, clone_initializer, clone_local_name,
     clone_mangled_name, clone_member_name, clone_name, clone_simple_id, clone_special_name,
     clone_subobject_expr, clone_template_arg, clone_template_args, clone_unresolved_name,
     clone_unresolved_qualifier_level,
-};
-use demangle_nodes::{
-    BaseUnresolvedName, DestructorName, Encoding, ExprPrimary, Expression, FoldExpr,
-    GlobalCtorDtor, Initializer, LocalName, MangledName, MemberName, Name, SimpleId, SpecialName,
-    SubobjectExpr, TemplateArg, TemplateArgs, UnresolvedName, UnresolvedQualifierLevel,
 };
 use demangle_text::Result;
 use std::alloc::Global;

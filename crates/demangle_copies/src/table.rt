@@ -4,7 +4,7 @@ ghost use Rattle.std.specs.Prelude.{◌≡◌};
 ghost use Rattle.demangle_table.specs.TableOf.{table_of};
 
 use crate::try_clone::TryClone;
-use demangle_nodes::Substitutable;
+use demangle_entries::Substitutable;
 use demangle_table::{CopyComponent, SubstitutionTable};
 use demangle_text::Result;
 use std::alloc::Global;

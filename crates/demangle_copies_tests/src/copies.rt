@@ -1,7 +1,7 @@
 //! Copies are made with ample memory, and equal what was copied.
 
 use demangle_copies::TryClone;
-use demangle_nodes::{
+use demangle_entries::{
     ArrayType, BaseUnresolvedName, ClassEnumType, ClosureTypeName, CvQualifiers, Decltype,
     DestructorName, ExceptionSpec, ExprPrimary, Expression, FoldExpr, FunctionType, GlobalCtorDtor,
     Initializer, LambdaSig, LocalName, MemberName, NestedName, Prefix, PrefixHandle, SpecialName,

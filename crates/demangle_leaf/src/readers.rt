@@ -9,12 +9,13 @@ ghost use Rattle.demangle_leaf.specs.Reads.{AnswersRow, Reads};
 
 use crate::context::ParseContext;
 use crate::rows;
-use demangle_text::{IndexStr, Result};
-use demangle_tree::{
+use demangle_leaf_nodes::{
     AbiTag, CallOffset, CloneTypeIdentifier, CvQualifiers, Discriminator, FunctionParam,
-    Identifier, Number, NvOffset, SeqId, SourceName, Substitution, SubstitutionTable,
-    TemplateParam, UnnamedTypeName, VOffset,
+    Identifier, Number, NvOffset, SeqId, SourceName, Substitution, TemplateParam, UnnamedTypeName,
+    VOffset,
 };
+use demangle_table::SubstitutionTable;
+use demangle_text::{IndexStr, Result};
 
 /// A source name, ABI section 5.1.2, <source-name>: a number and just so many bytes of an identifier. A length of 0 and bytes that are
 /// no identifier's are `UnexpectedText`, fewer bytes `UnexpectedEnd`.

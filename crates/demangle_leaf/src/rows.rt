@@ -9,12 +9,13 @@ ghost use Rattle.demangle_leaf.specs.Reads.{AnswersRow};
 
 use crate::bytes::{digit_at, letters_at, optional_word};
 use crate::depth::{Depth, hidden};
-use demangle_text::{Error, IndexStr, Result, consume, parse_number, parse_unsigned};
-use demangle_tree::{
+use demangle_leaf_nodes::{
     AbiTag, CallOffset, CloneTypeIdentifier, CvQualifiers, Discriminator, FunctionParam,
-    Identifier, Number, NvOffset, SeqId, SourceName, Substitution, SubstitutionTable,
-    TemplateParam, UnnamedTypeName, VOffset,
+    Identifier, Number, NvOffset, SeqId, SourceName, Substitution, TemplateParam, UnnamedTypeName,
+    VOffset,
 };
+use demangle_table::SubstitutionTable;
+use demangle_text::{Error, IndexStr, Result, consume, parse_number, parse_unsigned};
 use demangle_vocab::WellKnownComponent;
 
 /// An identifier, ABI section 5.1.2, <identifier>.

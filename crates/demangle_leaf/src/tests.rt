@@ -6,12 +6,12 @@ use crate::{
     read_seq_id, read_source_name, read_substitution, read_template_param, read_unnamed_type_name,
     read_v_offset,
 };
-use demangle_text::{Error, IndexStr, ParseOptions, Result};
-use demangle_tree::{
+use demangle_leaf_nodes::{
     AbiTag, CallOffset, CloneTypeIdentifier, CvQualifiers, Discriminator, FunctionParam,
-    Identifier, NvOffset, SeqId, SourceName, Substitution, SubstitutionTable, TemplateParam,
-    UnnamedTypeName, VOffset,
+    Identifier, NvOffset, SeqId, SourceName, Substitution, TemplateParam, UnnamedTypeName, VOffset,
 };
+use demangle_table::SubstitutionTable;
+use demangle_text::{Error, IndexStr, ParseOptions, Result};
 use demangle_vocab::WellKnownComponent;
 use std::test::Fail;
 

@@ -1,2 +1,1 @@
 pub mod TreeNodes
-pub mod TreeEntries

@@ -1,9 +1,7 @@
-//! The node types of the syntax tree, the plain tree of each, and their equality.
+//! The node types that hold each other, the plain tree of each, and their equality. It exports those of leaves too.
 #![tactic(auto)]
 
-mod entries;
 mod nodes;
-mod same_entries;
 mod same_nodes;
 mod same_parts;
 
@@ -15,10 +13,6 @@ pub use demangle_leaf_nodes::{
     SeqId, SourceName, Substitution, TemplateParam, TemplateTemplateParam,
     TemplateTemplateParamHandle, TypeHandle, UnnamedTypeName, UnqualifiedName,
     UnresolvedTypeHandle, UnscopedName, UnscopedTemplateName, UnscopedTemplateNameHandle, VOffset,
-};
-pub use entries::{
-    ArrayType, ClassEnumType, Decltype, ExceptionSpec, FunctionType, Prefix, Substitutable,
-    TypeNode, UnresolvedType, VectorType,
 };
 pub use nodes::{
     BaseUnresolvedName, DestructorName, Encoding, ExprPrimary, Expression, FoldExpr,

@@ -7,8 +7,8 @@ use Rattle.std.specs.Prelude.{slice_get, Option, Some, None, option_map, IfSome,
 use Rattle.demangle_core.specs.Core.{N, U}
 use Rattle.demangle_core.specs.Table.{listed, added, size, sizes, cut, entry_at, empty_table, numbered}
 use Rattle.demangle_table.specs.View.{table_from, entry_trees, woven, Rise, Climb}
-use Rattle.demangle_nodes.specs.TreeEntries.{tree_of_substitutable}
-use Rattle.demangle_nodes.specs.declared.entries.Substitutable.{Substitutable}
+use Rattle.demangle_entries.specs.TreeEntries.{tree_of_substitutable}
+use Rattle.demangle_entries.specs.declared.entries.Substitutable.{Substitutable}
 use Rattle.demangle_table.proofs.Woven.{numbered_more, other_more, cut_woven, first_list, second_list, counted, rise_more, rise_push, rise_down, climb_all, climb_part}
 
 got_is : (k : ℕ) (x : Substitutable) (ns : List Substitutable) → k < length ns → x ≡ get_or ns k x → slice_get ns k ≡ Some x

@@ -2,8 +2,8 @@
 use Rattle.std.proofs.Common.{◌≡◌, ap, ◌∙◌, sym, subst, ℕ, List, length}
 use Rattle.std.proofs.lemmas.List.{length-map}
 use Rattle.demangle_table.specs.View.{table_from, entry_trees, woven, Rise}
-use Rattle.demangle_nodes.specs.TreeEntries.{tree_of_substitutable}
-use Rattle.demangle_nodes.specs.declared.entries.Substitutable.{Substitutable}
+use Rattle.demangle_entries.specs.TreeEntries.{tree_of_substitutable}
+use Rattle.demangle_entries.specs.declared.entries.Substitutable.{Substitutable}
 
 long : (xs ys : List Substitutable) → entry_trees xs ≡ entry_trees ys → length xs ≡ length ys
 long xs ys e = sym (length-map xs tree_of_substitutable) ∙ ap length e ∙ length-map ys tree_of_substitutable

@@ -6,8 +6,8 @@ use Rattle.std.specs.Cmp.Derive.Mapped.{pointwise-map}
 use Rattle.demangle_core.specs.Core.{same}
 use Rattle.demangle_core.specs.Table.{same_tables}
 use Rattle.demangle_table.specs.View.{table_from, entry_trees}
-use Rattle.demangle_nodes.specs.TreeEntries.{tree_of_substitutable}
-use Rattle.demangle_nodes.specs.declared.entries.Substitutable.{Substitutable}
+use Rattle.demangle_entries.specs.TreeEntries.{tree_of_substitutable}
+use Rattle.demangle_entries.specs.declared.entries.Substitutable.{Substitutable}
 use Rattle.demangle_table.proofs.Woven.{first_list, second_list}
 
 abbrev pub same_entries : Substitutable → Substitutable → Bool

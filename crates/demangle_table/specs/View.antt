@@ -4,8 +4,8 @@ use Rattle.std.specs.Prelude.{ℕ, ◌-◌, ◌≤◌, List, [], ◌∷◌, ◌+
 use Rattle.std.specs.Coded.{×_prop, le_prop}
 use Rattle.demangle_core.specs.Core.{Core, Which, N, U}
 use Rattle.demangle_core.specs.Table.{Entry, Table}
-use Rattle.demangle_nodes.specs.TreeEntries.{tree_of_substitutable}
-use Rattle.demangle_nodes.specs.declared.entries.Substitutable.{Substitutable}
+use Rattle.demangle_entries.specs.TreeEntries.{tree_of_substitutable}
+use Rattle.demangle_entries.specs.declared.entries.Substitutable.{Substitutable}
 
 abbrev pub all_of : Which → List Core → List Entry
 all_of w xs = map (λ x. record { which = w; tree = x }) xs

@@ -4,7 +4,7 @@ ghost use Rattle.std.specs.Prelude.{◌≡◌};
 ghost use Rattle.demangle_table.specs.TableOf.{table_of};
 
 use crate::table::SubstitutionTable;
-use demangle_nodes::Substitutable;
+use demangle_entries::Substitutable;
 
 /// Two components inserted, one in each list, and given back by a cut to the lengths before: the table is as it was,
 /// whether or not there was memory for them. An addition to the original.

@@ -7,11 +7,11 @@ ghost use Rattle.demangle_core.specs.Core.{N, U};
 ghost use Rattle.demangle_core.specs.Same.{same_tables_equiv};
 ghost use Rattle.demangle_core.specs.Table.{added, cut, empty_table, entry_at, listed, numbered, same_tables, size, sizes, type_behind};
 ghost use Rattle.demangle_leaf_nodes.specs.TreeLeaves.{tree_of_type_handle};
-ghost use Rattle.demangle_nodes.specs.TreeEntries.{tree_of_substitutable, tree_of_type_node};
+ghost use Rattle.demangle_entries.specs.TreeEntries.{tree_of_substitutable, tree_of_type_node};
 ghost use Rattle.demangle_text.specs.declared.error.Error.TheVariants.{OutOfMemory};
 ghost use Rattle.demangle_table.specs.View.{Climb, Rise, Rise-prop, entry_trees};
 
-use demangle_nodes::{Substitutable, TypeHandle, TypeNode};
+use demangle_entries::{Substitutable, TypeHandle, TypeNode};
 use std::alloc::Global;
 use std::fmt;
 use std::fmt::Write;

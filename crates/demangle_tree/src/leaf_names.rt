@@ -11,10 +11,10 @@ ghost use Rattle.demangle_core.specs.Table.{size};
 ghost use Rattle.demangle_table.specs.TableOf.{table_of};
 ghost use Rattle.demangle_leaf_nodes.specs.TreeLeaves.{tree_of_leaf_name, tree_of_well_known_component, tree_of_nested_name, tree_of_prefix_handle, tree_of_template_template_param_handle, tree_of_type_handle, tree_of_unqualified_name, tree_of_unresolved_type_handle, tree_of_unscoped_name, tree_of_unscoped_template_name, tree_of_unscoped_template_name_handle, tree_of_non_substitution, tree_of_builtin_type, tree_of_qualified_builtin, tree_of_closure_type_name, tree_of_data_member_prefix};
 ghost use Rattle.demangle_nodes.specs.TreeNodes.{tree_of_name, tree_of_local_name};
-ghost use Rattle.demangle_nodes.specs.TreeEntries.{tree_of_prefix, tree_of_class_enum_type, tree_of_type_node, tree_of_substitutable};
+ghost use Rattle.demangle_entries.specs.TreeEntries.{tree_of_prefix, tree_of_class_enum_type, tree_of_type_node, tree_of_substitutable};
 
 use crate::steps::LeafStep;
-use demangle_nodes::{
+use demangle_entries::{
     BuiltinType, ClassEnumType, ClosureTypeName, DataMemberPrefix, LeafName, LocalName, Name,
     NestedName, NonSubstitution, Prefix, PrefixHandle, QualifiedBuiltin, Substitutable,
     TemplateTemplateParamHandle, TypeHandle, TypeNode, UnqualifiedName, UnresolvedTypeHandle,

@@ -7,7 +7,7 @@ mod special_names;
 mod steps;
 mod template_args;
 
-pub use demangle_nodes::{
+pub use demangle_entries::{
     AbiTag, AbiTags, ArrayType, BareFunctionType, BaseUnresolvedName, BuiltinType, CallOffset,
     ClassEnumType, CloneSuffix, CloneTypeIdentifier, ClosureTypeName, CtorDtorName, CvQualifiers,
     DataMemberPrefix, Decltype, DestructorName, Discriminator, Encoding, ExceptionSpec,

@@ -8,10 +8,10 @@ ghost use Rattle.demangle_tree.specs.LookupsOf.{special_next};
 ghost use Rattle.demangle_table.specs.TableOf.{table_of};
 ghost use Rattle.demangle_leaf_nodes.specs.TreeLeaves.{tree_of_nested_name, tree_of_prefix_handle, tree_of_unqualified_name, tree_of_unscoped_name};
 ghost use Rattle.demangle_nodes.specs.TreeNodes.{tree_of_name};
-ghost use Rattle.demangle_nodes.specs.TreeEntries.{tree_of_prefix, tree_of_substitutable};
+ghost use Rattle.demangle_entries.specs.TreeEntries.{tree_of_prefix, tree_of_substitutable};
 
 use crate::steps::SpecialStep;
-use demangle_nodes::{
+use demangle_entries::{
     Name, NestedName, OperatorName, Prefix, PrefixHandle, Substitutable, UnqualifiedName,
     UnscopedName,
 };

@@ -4,7 +4,7 @@ ghost use Rattle.std.specs.Prelude.{◌≡◌, is_some, option_map};
 ghost use Rattle.demangle_tree.specs.Lookups.{answer_of, refers};
 ghost use Rattle.demangle_nodes.specs.TreeNodes.{tree_of_template_args};
 
-use demangle_nodes::{LeafName, TemplateArgs};
+use demangle_entries::{LeafName, TemplateArgs};
 
 /// What a node says of its leaf name: that it is this one, that there is none, or that it is the one of a component.
 #[derive(Clone, Copy)]

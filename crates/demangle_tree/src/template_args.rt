@@ -8,10 +8,10 @@ ghost use Rattle.demangle_tree.specs.LookupsOf.{args_next};
 ghost use Rattle.demangle_table.specs.TableOf.{table_of};
 ghost use Rattle.demangle_leaf_nodes.specs.TreeLeaves.{tree_of_nested_name, tree_of_prefix_handle, tree_of_type_handle};
 ghost use Rattle.demangle_nodes.specs.TreeNodes.{tree_of_local_name, tree_of_name, tree_of_template_args};
-ghost use Rattle.demangle_nodes.specs.TreeEntries.{tree_of_prefix, tree_of_substitutable, tree_of_type_node};
+ghost use Rattle.demangle_entries.specs.TreeEntries.{tree_of_prefix, tree_of_substitutable, tree_of_type_node};
 
 use crate::steps::ArgsStep;
-use demangle_nodes::{
+use demangle_entries::{
     LocalName, Name, NestedName, Prefix, PrefixHandle, Substitutable, TemplateArgs, TypeHandle,
     TypeNode,
 };

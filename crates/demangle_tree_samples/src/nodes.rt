@@ -1,7 +1,7 @@
 //! Nodes with others inside, built anew at each call. What is dropped where memory is wanting is dropped in the generic
 //! functions at the head, since each place that drops a node is dear to prove.
 
-use demangle_nodes::{
+use demangle_entries::{
     AbiTag, AbiTags, BareFunctionType, CloneSuffix, CloneTypeIdentifier, Encoding, ExprPrimary,
     Expression, FoldExpr, Identifier, MangledName, Name, SimpleId, SourceName, TemplateArg,
     TemplateArgs, TypeHandle, UnqualifiedName, UnscopedName,

@@ -1,6 +1,6 @@
 //! Nodes that the tests are made of. They promise nothing, so a test knows of them what it finds when it runs.
 
-use demangle_nodes::{
+use demangle_entries::{
     AbiTags, BuiltinType, CtorDtorName, Identifier, LeafName, OperatorName, Prefix, PrefixHandle,
     SourceName, Substitutable, TemplateArgs, TypeHandle, TypeNode, UnqualifiedName,
 };

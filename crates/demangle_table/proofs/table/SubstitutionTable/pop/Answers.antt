@@ -1,7 +1,7 @@
 use Rattle.std.proofs.Common.{◌≡◌, ◌∙◌, ap, List, [], ◌∷◌, ◌++◌, length, map, min, ℕ, Vec, Global, Option, Some, rules}
 use Rattle.std.specs.Option.{option_to_list}
 use Rattle.demangle_table.specs.View.{table_from}
-use Rattle.demangle_nodes.specs.declared.entries.Substitutable.{Substitutable}
+use Rattle.demangle_entries.specs.declared.entries.Substitutable.{Substitutable}
 use Rattle.demangle_table.proofs.Calls.{popped_paired, popped_rising, popped_table, popped_last}
 use Rattle.demangle_table.proofs.table.SubstitutionTable.pop.Goals as goal
 

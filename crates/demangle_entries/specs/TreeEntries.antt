@@ -1,25 +1,25 @@
 -- The trees of types, prefixes, the entries of the table and leaf names.
 use Rattle.std.specs.Prelude.{pos}
 use Rattle.demangle_core.specs.Core.{Tag, Core, end, node, number, flag, ◌⊕◌}
-use Rattle.demangle_nodes.specs.declared.entries.Decltype.{Decltype}
-use Rattle.demangle_nodes.specs.declared.entries.Decltype.TheVariants as of_decltype
-use Rattle.demangle_nodes.specs.declared.entries.Prefix.{Prefix}
-use Rattle.demangle_nodes.specs.declared.entries.Prefix.TheVariants as of_prefix
-use Rattle.demangle_nodes.specs.declared.entries.ArrayType.{ArrayType}
-use Rattle.demangle_nodes.specs.declared.entries.ArrayType.TheVariants as of_array_type
-use Rattle.demangle_nodes.specs.declared.entries.VectorType.{VectorType}
-use Rattle.demangle_nodes.specs.declared.entries.VectorType.TheVariants as of_vector_type
-use Rattle.demangle_nodes.specs.declared.entries.ClassEnumType.{ClassEnumType}
-use Rattle.demangle_nodes.specs.declared.entries.ClassEnumType.TheVariants as of_class_enum_type
-use Rattle.demangle_nodes.specs.declared.entries.ExceptionSpec.{ExceptionSpec}
-use Rattle.demangle_nodes.specs.declared.entries.ExceptionSpec.TheVariants as of_exception_spec
-use Rattle.demangle_nodes.specs.declared.entries.FunctionType.{FunctionType}
-use Rattle.demangle_nodes.specs.declared.entries.TypeNode.{TypeNode}
-use Rattle.demangle_nodes.specs.declared.entries.TypeNode.TheVariants as of_type_node
-use Rattle.demangle_nodes.specs.declared.entries.UnresolvedType.{UnresolvedType}
-use Rattle.demangle_nodes.specs.declared.entries.UnresolvedType.TheVariants as of_unresolved_type
-use Rattle.demangle_nodes.specs.declared.entries.Substitutable.{Substitutable}
-use Rattle.demangle_nodes.specs.declared.entries.Substitutable.TheVariants as of_substitutable
+use Rattle.demangle_entries.specs.declared.entries.Decltype.{Decltype}
+use Rattle.demangle_entries.specs.declared.entries.Decltype.TheVariants as of_decltype
+use Rattle.demangle_entries.specs.declared.entries.Prefix.{Prefix}
+use Rattle.demangle_entries.specs.declared.entries.Prefix.TheVariants as of_prefix
+use Rattle.demangle_entries.specs.declared.entries.ArrayType.{ArrayType}
+use Rattle.demangle_entries.specs.declared.entries.ArrayType.TheVariants as of_array_type
+use Rattle.demangle_entries.specs.declared.entries.VectorType.{VectorType}
+use Rattle.demangle_entries.specs.declared.entries.VectorType.TheVariants as of_vector_type
+use Rattle.demangle_entries.specs.declared.entries.ClassEnumType.{ClassEnumType}
+use Rattle.demangle_entries.specs.declared.entries.ClassEnumType.TheVariants as of_class_enum_type
+use Rattle.demangle_entries.specs.declared.entries.ExceptionSpec.{ExceptionSpec}
+use Rattle.demangle_entries.specs.declared.entries.ExceptionSpec.TheVariants as of_exception_spec
+use Rattle.demangle_entries.specs.declared.entries.FunctionType.{FunctionType}
+use Rattle.demangle_entries.specs.declared.entries.TypeNode.{TypeNode}
+use Rattle.demangle_entries.specs.declared.entries.TypeNode.TheVariants as of_type_node
+use Rattle.demangle_entries.specs.declared.entries.UnresolvedType.{UnresolvedType}
+use Rattle.demangle_entries.specs.declared.entries.UnresolvedType.TheVariants as of_unresolved_type
+use Rattle.demangle_entries.specs.declared.entries.Substitutable.{Substitutable}
+use Rattle.demangle_entries.specs.declared.entries.Substitutable.TheVariants as of_substitutable
 use Rattle.demangle_leaf_nodes.specs.TreeLeaves.{tree_of_option, tree_of_ref_qualifier, tree_of_template_param, tree_of_source_name, tree_of_data_member_prefix, tree_of_cv_qualifiers, tree_of_template_template_param, tree_of_prefix_handle, tree_of_template_template_param_handle, tree_of_type_handle, tree_of_bare_function_type, tree_of_pointer_to_member_type, tree_of_unqualified_name, tree_of_unscoped_template_name}
 use Rattle.demangle_nodes.specs.TreeNodes.{tree_of_name, tree_of_template_args, tree_of_expression}
 

@@ -1,12 +1,12 @@
 //! The node types above names and expressions: types, prefixes, and the entries of the substitution table.
 
-use crate::nodes::{Expression, Name, TemplateArgs};
 use demangle_leaf_nodes::{
-    BareFunctionType, ClosureTypeName, CvQualifiers, DataMemberPrefix, PointerToMemberType,
-    PrefixHandle, SourceName, TemplateParam, TemplateTemplateParam, TemplateTemplateParamHandle,
-    TypeHandle, UnnamedTypeName, UnqualifiedName, UnscopedTemplateName,
+    BareFunctionType, CvQualifiers, DataMemberPrefix, PointerToMemberType, PrefixHandle,
+    SourceName, TemplateParam, TemplateTemplateParam, TemplateTemplateParamHandle, TypeHandle,
+    UnqualifiedName, UnscopedTemplateName,
 };
-use demangle_vocab::{RefQualifier, WellKnownComponent};
+use demangle_nodes::{Expression, Name, TemplateArgs};
+use demangle_vocab::RefQualifier;
 
 /// `decltype` of an expression; `IdExpression` where it names an entity. ABI section 5.1.5.5, `<decltype>`.
 #[derive(Drop, Debug)]
