@@ -43,7 +43,7 @@ impl TryClone for MangledName {
     ghost IsCopy = { λ a b. tree_of_mangled_name b ≡ tree_of_mangled_name a };
 
     fn try_clone(&self, alloc: Global) -> Result<MangledName> {
-        clone_mangled_name(alloc, self)
+        Ok(clone_mangled_name(alloc, self)?)
     }
 }
 
@@ -51,7 +51,7 @@ impl TryClone for Encoding {
     ghost IsCopy = { λ a b. tree_of_encoding b ≡ tree_of_encoding a };
 
     fn try_clone(&self, alloc: Global) -> Result<Encoding> {
-        clone_encoding(alloc, self)
+        Ok(clone_encoding(alloc, self)?)
     }
 }
 
@@ -59,7 +59,7 @@ impl TryClone for GlobalCtorDtor {
     ghost IsCopy = { λ a b. tree_of_global_ctor_dtor b ≡ tree_of_global_ctor_dtor a };
 
     fn try_clone(&self, alloc: Global) -> Result<GlobalCtorDtor> {
-        clone_global_ctor_dtor(alloc, self)
+        Ok(clone_global_ctor_dtor(alloc, self)?)
     }
 }
 
@@ -67,7 +67,7 @@ impl TryClone for Name {
     ghost IsCopy = { λ a b. tree_of_name b ≡ tree_of_name a };
 
     fn try_clone(&self, alloc: Global) -> Result<Name> {
-        clone_name(alloc, self)
+        Ok(clone_name(alloc, self)?)
     }
 }
 
@@ -75,7 +75,7 @@ impl TryClone for TemplateArgs {
     ghost IsCopy = { λ a b. tree_of_template_args b ≡ tree_of_template_args a };
 
     fn try_clone(&self, alloc: Global) -> Result<TemplateArgs> {
-        clone_template_args(alloc, self)
+        Ok(clone_template_args(alloc, self)?)
     }
 }
 
@@ -83,7 +83,7 @@ impl TryClone for TemplateArg {
     ghost IsCopy = { λ a b. tree_of_template_arg b ≡ tree_of_template_arg a };
 
     fn try_clone(&self, alloc: Global) -> Result<TemplateArg> {
-        clone_template_arg(alloc, self)
+        Ok(clone_template_arg(alloc, self)?)
     }
 }
 
@@ -91,7 +91,7 @@ impl TryClone for MemberName {
     ghost IsCopy = { λ a b. tree_of_member_name b ≡ tree_of_member_name a };
 
     fn try_clone(&self, alloc: Global) -> Result<MemberName> {
-        clone_member_name(alloc, self)
+        Ok(clone_member_name(alloc, self)?)
     }
 }
 
@@ -99,7 +99,7 @@ impl TryClone for Initializer {
     ghost IsCopy = { λ a b. tree_of_initializer b ≡ tree_of_initializer a };
 
     fn try_clone(&self, alloc: Global) -> Result<Initializer> {
-        clone_initializer(alloc, self)
+        Ok(clone_initializer(alloc, self)?)
     }
 }
 
@@ -107,7 +107,7 @@ impl TryClone for Expression {
     ghost IsCopy = { λ a b. tree_of_expression b ≡ tree_of_expression a };
 
     fn try_clone(&self, alloc: Global) -> Result<Expression> {
-        clone_expression(alloc, self)
+        Ok(clone_expression(alloc, self)?)
     }
 }
 
@@ -115,7 +115,7 @@ impl TryClone for UnresolvedName {
     ghost IsCopy = { λ a b. tree_of_unresolved_name b ≡ tree_of_unresolved_name a };
 
     fn try_clone(&self, alloc: Global) -> Result<UnresolvedName> {
-        clone_unresolved_name(alloc, self)
+        Ok(clone_unresolved_name(alloc, self)?)
     }
 }
 
@@ -123,7 +123,7 @@ impl TryClone for UnresolvedQualifierLevel {
     ghost IsCopy = { λ a b. tree_of_unresolved_qualifier_level b ≡ tree_of_unresolved_qualifier_level a };
 
     fn try_clone(&self, alloc: Global) -> Result<UnresolvedQualifierLevel> {
-        clone_unresolved_qualifier_level(alloc, self)
+        Ok(clone_unresolved_qualifier_level(alloc, self)?)
     }
 }
 
@@ -131,7 +131,7 @@ impl TryClone for SimpleId {
     ghost IsCopy = { λ a b. tree_of_simple_id b ≡ tree_of_simple_id a };
 
     fn try_clone(&self, alloc: Global) -> Result<SimpleId> {
-        clone_simple_id(alloc, self)
+        Ok(clone_simple_id(alloc, self)?)
     }
 }
 
@@ -139,7 +139,7 @@ impl TryClone for BaseUnresolvedName {
     ghost IsCopy = { λ a b. tree_of_base_unresolved_name b ≡ tree_of_base_unresolved_name a };
 
     fn try_clone(&self, alloc: Global) -> Result<BaseUnresolvedName> {
-        clone_base_unresolved_name(alloc, self)
+        Ok(clone_base_unresolved_name(alloc, self)?)
     }
 }
 
@@ -147,7 +147,7 @@ impl TryClone for DestructorName {
     ghost IsCopy = { λ a b. tree_of_destructor_name b ≡ tree_of_destructor_name a };
 
     fn try_clone(&self, alloc: Global) -> Result<DestructorName> {
-        clone_destructor_name(alloc, self)
+        Ok(clone_destructor_name(alloc, self)?)
     }
 }
 
@@ -155,7 +155,7 @@ impl TryClone for ExprPrimary {
     ghost IsCopy = { λ a b. tree_of_expr_primary b ≡ tree_of_expr_primary a };
 
     fn try_clone(&self, alloc: Global) -> Result<ExprPrimary> {
-        clone_expr_primary(alloc, self)
+        Ok(clone_expr_primary(alloc, self)?)
     }
 }
 
@@ -163,7 +163,7 @@ impl TryClone for LocalName {
     ghost IsCopy = { λ a b. tree_of_local_name b ≡ tree_of_local_name a };
 
     fn try_clone(&self, alloc: Global) -> Result<LocalName> {
-        clone_local_name(alloc, self)
+        Ok(clone_local_name(alloc, self)?)
     }
 }
 
@@ -171,7 +171,7 @@ impl TryClone for SpecialName {
     ghost IsCopy = { λ a b. tree_of_special_name b ≡ tree_of_special_name a };
 
     fn try_clone(&self, alloc: Global) -> Result<SpecialName> {
-        clone_special_name(alloc, self)
+        Ok(clone_special_name(alloc, self)?)
     }
 }
 
@@ -179,7 +179,7 @@ impl TryClone for SubobjectExpr {
     ghost IsCopy = { λ a b. tree_of_subobject_expr b ≡ tree_of_subobject_expr a };
 
     fn try_clone(&self, alloc: Global) -> Result<SubobjectExpr> {
-        clone_subobject_expr(alloc, self)
+        Ok(clone_subobject_expr(alloc, self)?)
     }
 }
 
@@ -187,6 +187,6 @@ impl TryClone for FoldExpr {
     ghost IsCopy = { λ a b. tree_of_fold_expr b ≡ tree_of_fold_expr a };
 
     fn try_clone(&self, alloc: Global) -> Result<FoldExpr> {
-        clone_fold_expr(alloc, self)
+        Ok(clone_fold_expr(alloc, self)?)
     }
 }

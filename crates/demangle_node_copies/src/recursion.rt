@@ -1,8 +1,7 @@
 //! The recursion behind the copies of `nodes`: a copy has the same tag and the same parts.
 
-ghost use Rattle.std.specs.Prelude.{◌≡◌, IfOk, IfErr, Ok};
+ghost use Rattle.std.specs.Prelude.{◌≡◌, IfOk, Ok};
 ghost use Rattle.demangle_core.specs.Core.{trees};
-ghost use Rattle.demangle_text.specs.declared.error.Error.TheVariants.{OutOfMemory};
 ghost use Rattle.demangle_leaf_nodes.specs.TreeLeaves.{parts_of_option, tag_of_option};
 ghost use Rattle.demangle_nodes.specs.TreeNodes.{
   tag_of_mangled_name,
@@ -49,22 +48,20 @@ use demangle_nodes::{
     GlobalCtorDtor, Initializer, LocalName, MangledName, MemberName, Name, SimpleId, SpecialName,
     SubobjectExpr, TemplateArg, TemplateArgs, UnresolvedName, UnresolvedQualifierLevel,
 };
-use demangle_text::Result;
-use std::alloc::Global;
+use std::alloc::{AllocError, Global};
 
-/// A copy with the same tree, `place` included. `OutOfMemory` is its only refusal.
+/// A copy with the same tree, `place` included. Want of memory is its only refusal.
 #[cycle(clone)]
 #[tactic(auto, using(demangle_nodes::proofs::Parts::parts_mangled_name))]
-pub fn clone_mangled_name(alloc: Global, node: &MangledName) -> Result<MangledName>
+pub fn clone_mangled_name(alloc: Global, node: &MangledName) -> Result<MangledName, AllocError>
     ensures same_tag { IfOk result (λ r. tag_of_mangled_name r ≡ tag_of_mangled_name node.now) }
     ensures same_parts { IfOk result (λ r. parts_of_mangled_name r ≡ parts_of_mangled_name node.now) }
-    ensures refused { IfErr result (λ e. e ≡ OutOfMemory) }
 {
     match node {
         MangledName::Encoding(encoding, suffixes) => {
             let (encoding, suffixes) = both(
                 clone_encoding(alloc, encoding),
-                clone_suffixes(alloc, suffixes),
+                of_leaf(clone_suffixes(alloc, suffixes)),
             )?;
             Ok(MangledName::Encoding(encoding, suffixes))
         }
@@ -79,17 +76,19 @@ pub fn clone_mangled_name(alloc: Global, node: &MangledName) -> Result<MangledNa
     }
 }
 
-/// A copy with the same tree, `place` included. `OutOfMemory` is its only refusal.
+/// A copy with the same tree, `place` included. Want of memory is its only refusal.
 #[cycle(clone)]
 #[tactic(auto, using(demangle_nodes::proofs::Parts::parts_encoding))]
-pub fn clone_encoding(alloc: Global, node: &Encoding) -> Result<Encoding>
+pub fn clone_encoding(alloc: Global, node: &Encoding) -> Result<Encoding, AllocError>
     ensures same_tag { IfOk result (λ r. tag_of_encoding r ≡ tag_of_encoding node.now) }
     ensures same_parts { IfOk result (λ r. parts_of_encoding r ≡ parts_of_encoding node.now) }
-    ensures refused { IfErr result (λ e. e ≡ OutOfMemory) }
 {
     match node {
         Encoding::Function(name, signature) => {
-            let (name, signature) = both(clone_name(alloc, name), signature.try_clone(alloc))?;
+            let (name, signature) = both(
+                clone_name(alloc, name),
+                of_leaf(signature.try_clone(alloc)),
+            )?;
             Ok(Encoding::Function(name, signature))
         }
         Encoding::Data(name) => Ok(Encoding::Data(clone_name(alloc, name)?)),
@@ -100,13 +99,15 @@ pub fn clone_encoding(alloc: Global, node: &Encoding) -> Result<Encoding>
     }
 }
 
-/// A copy with the same tree, `place` included. `OutOfMemory` is its only refusal.
+/// A copy with the same tree, `place` included. Want of memory is its only refusal.
 #[cycle(clone)]
 #[tactic(auto, using(demangle_nodes::proofs::Parts::parts_global_ctor_dtor))]
-pub fn clone_global_ctor_dtor(alloc: Global, node: &GlobalCtorDtor) -> Result<GlobalCtorDtor>
+pub fn clone_global_ctor_dtor(
+    alloc: Global,
+    node: &GlobalCtorDtor,
+) -> Result<GlobalCtorDtor, AllocError>
     ensures same_tag { IfOk result (λ r. tag_of_global_ctor_dtor r ≡ tag_of_global_ctor_dtor node.now) }
     ensures same_parts { IfOk result (λ r. parts_of_global_ctor_dtor r ≡ parts_of_global_ctor_dtor node.now) }
-    ensures refused { IfErr result (λ e. e ≡ OutOfMemory) }
 {
     match node {
         GlobalCtorDtor::Ctor(name) => Ok(GlobalCtorDtor::Ctor(boxed(
@@ -120,17 +121,16 @@ pub fn clone_global_ctor_dtor(alloc: Global, node: &GlobalCtorDtor) -> Result<Gl
     }
 }
 
-/// A copy with the same tree, `place` included. `OutOfMemory` is its only refusal.
+/// A copy with the same tree, `place` included. Want of memory is its only refusal.
 #[cycle(clone)]
 #[tactic(auto, using(demangle_nodes::proofs::Parts::parts_name))]
-pub fn clone_name(alloc: Global, node: &Name) -> Result<Name>
+pub fn clone_name(alloc: Global, node: &Name) -> Result<Name, AllocError>
     ensures same_tag { IfOk result (λ r. tag_of_name r ≡ tag_of_name node.now) }
     ensures same_parts { IfOk result (λ r. parts_of_name r ≡ parts_of_name node.now) }
-    ensures refused { IfErr result (λ e. e ≡ OutOfMemory) }
 {
     match node {
-        Name::Nested(name) => Ok(Name::Nested(name.try_clone(alloc)?)),
-        Name::Unscoped(name) => Ok(Name::Unscoped(name.try_clone(alloc)?)),
+        Name::Nested(name) => Ok(Name::Nested(of_leaf(name.try_clone(alloc))?)),
+        Name::Unscoped(name) => Ok(Name::Unscoped(of_leaf(name.try_clone(alloc))?)),
         Name::UnscopedTemplate(name, args) => Ok(Name::UnscopedTemplate(
             *name,
             clone_template_args(alloc, args)?,
@@ -139,22 +139,20 @@ pub fn clone_name(alloc: Global, node: &Name) -> Result<Name>
     }
 }
 
-/// A copy with the same tree, `place` included. `OutOfMemory` is its only refusal.
+/// A copy with the same tree, `place` included. Want of memory is its only refusal.
 #[cycle(clone)]
-pub fn clone_template_args(alloc: Global, node: &TemplateArgs) -> Result<TemplateArgs>
+pub fn clone_template_args(alloc: Global, node: &TemplateArgs) -> Result<TemplateArgs, AllocError>
     ensures same_parts { IfOk result (λ r. parts_of_template_args r ≡ parts_of_template_args node.now) }
-    ensures refused { IfErr result (λ e. e ≡ OutOfMemory) }
 {
     Ok(TemplateArgs(clone_template_arg_list(alloc, &node.0)?, node.1))
 }
 
-/// A copy with the same tree, `place` included. `OutOfMemory` is its only refusal.
+/// A copy with the same tree, `place` included. Want of memory is its only refusal.
 #[cycle(clone)]
 #[tactic(auto, using(demangle_nodes::proofs::Parts::parts_template_arg))]
-pub fn clone_template_arg(alloc: Global, node: &TemplateArg) -> Result<TemplateArg>
+pub fn clone_template_arg(alloc: Global, node: &TemplateArg) -> Result<TemplateArg, AllocError>
     ensures same_tag { IfOk result (λ r. tag_of_template_arg r ≡ tag_of_template_arg node.now) }
     ensures same_parts { IfOk result (λ r. parts_of_template_arg r ≡ parts_of_template_arg node.now) }
-    ensures refused { IfErr result (λ e. e ≡ OutOfMemory) }
 {
     match node {
         TemplateArg::TypeArg(handle) => Ok(TemplateArg::TypeArg(*handle)),
@@ -170,31 +168,31 @@ pub fn clone_template_arg(alloc: Global, node: &TemplateArg) -> Result<TemplateA
     }
 }
 
-/// A copy with the same tree, `place` included. `OutOfMemory` is its only refusal.
+/// A copy with the same tree, `place` included. Want of memory is its only refusal.
 #[cycle(clone)]
-pub fn clone_member_name(alloc: Global, node: &MemberName) -> Result<MemberName>
+pub fn clone_member_name(alloc: Global, node: &MemberName) -> Result<MemberName, AllocError>
     ensures same_parts { IfOk result (λ r. parts_of_member_name r ≡ parts_of_member_name node.now) }
-    ensures refused { IfErr result (λ e. e ≡ OutOfMemory) }
 {
     Ok(MemberName(boxed(alloc, clone_name(alloc, &node.0))?))
 }
 
-/// A copy with the same tree, `place` included. `OutOfMemory` is its only refusal.
+/// A copy with the same tree, `place` included. Want of memory is its only refusal.
 #[cycle(clone)]
-pub fn clone_initializer(alloc: Global, node: &Initializer) -> Result<Initializer>
+pub fn clone_initializer(alloc: Global, node: &Initializer) -> Result<Initializer, AllocError>
     ensures same_parts { IfOk result (λ r. parts_of_initializer r ≡ parts_of_initializer node.now) }
-    ensures refused { IfErr result (λ e. e ≡ OutOfMemory) }
 {
     Ok(Initializer(clone_expression_list(alloc, &node.0)?))
 }
 
-/// A copy with the same tree, `place` included. `OutOfMemory` is its only refusal.
+/// A copy with the same tree, `place` included. Want of memory is its only refusal.
 #[cycle(clone)]
 #[tactic(auto, using(demangle_nodes::proofs::Parts::parts_unresolved_name))]
-pub fn clone_unresolved_name(alloc: Global, node: &UnresolvedName) -> Result<UnresolvedName>
+pub fn clone_unresolved_name(
+    alloc: Global,
+    node: &UnresolvedName,
+) -> Result<UnresolvedName, AllocError>
     ensures same_tag { IfOk result (λ r. tag_of_unresolved_name r ≡ tag_of_unresolved_name node.now) }
     ensures same_parts { IfOk result (λ r. parts_of_unresolved_name r ≡ parts_of_unresolved_name node.now) }
-    ensures refused { IfErr result (λ e. e ≡ OutOfMemory) }
 {
     match node {
         UnresolvedName::Name(name) => Ok(UnresolvedName::Name(clone_base_unresolved_name(
@@ -227,39 +225,36 @@ pub fn clone_unresolved_name(alloc: Global, node: &UnresolvedName) -> Result<Unr
     }
 }
 
-/// A copy with the same tree, `place` included. `OutOfMemory` is its only refusal.
+/// A copy with the same tree, `place` included. Want of memory is its only refusal.
 #[cycle(clone)]
 #[tactic(auto, using(demangle_nodes::proofs::Parts::parts_unresolved_qualifier_level))]
 pub fn clone_unresolved_qualifier_level(
     alloc: Global,
     node: &UnresolvedQualifierLevel,
-) -> Result<UnresolvedQualifierLevel>
+) -> Result<UnresolvedQualifierLevel, AllocError>
     ensures same_parts { IfOk result (λ r. parts_of_unresolved_qualifier_level r ≡ parts_of_unresolved_qualifier_level node.now) }
-    ensures refused { IfErr result (λ e. e ≡ OutOfMemory) }
 {
     Ok(UnresolvedQualifierLevel(clone_simple_id(alloc, &node.0)?))
 }
 
-/// A copy with the same tree, `place` included. `OutOfMemory` is its only refusal.
+/// A copy with the same tree, `place` included. Want of memory is its only refusal.
 #[cycle(clone)]
 #[tactic(auto, using(demangle_nodes::proofs::Parts::parts_simple_id))]
-pub fn clone_simple_id(alloc: Global, node: &SimpleId) -> Result<SimpleId>
+pub fn clone_simple_id(alloc: Global, node: &SimpleId) -> Result<SimpleId, AllocError>
     ensures same_parts { IfOk result (λ r. parts_of_simple_id r ≡ parts_of_simple_id node.now) }
-    ensures refused { IfErr result (λ e. e ≡ OutOfMemory) }
 {
     Ok(SimpleId(node.0, clone_optional_template_args(alloc, &node.1)?))
 }
 
-/// A copy with the same tree, `place` included. `OutOfMemory` is its only refusal.
+/// A copy with the same tree, `place` included. Want of memory is its only refusal.
 #[cycle(clone)]
 #[tactic(auto, using(demangle_nodes::proofs::Parts::parts_base_unresolved_name))]
 pub fn clone_base_unresolved_name(
     alloc: Global,
     node: &BaseUnresolvedName,
-) -> Result<BaseUnresolvedName>
+) -> Result<BaseUnresolvedName, AllocError>
     ensures same_tag { IfOk result (λ r. tag_of_base_unresolved_name r ≡ tag_of_base_unresolved_name node.now) }
     ensures same_parts { IfOk result (λ r. parts_of_base_unresolved_name r ≡ parts_of_base_unresolved_name node.now) }
-    ensures refused { IfErr result (λ e. e ≡ OutOfMemory) }
 {
     match node {
         BaseUnresolvedName::Name(name) => Ok(BaseUnresolvedName::Name(clone_simple_id(
@@ -275,13 +270,15 @@ pub fn clone_base_unresolved_name(
     }
 }
 
-/// A copy with the same tree, `place` included. `OutOfMemory` is its only refusal.
+/// A copy with the same tree, `place` included. Want of memory is its only refusal.
 #[cycle(clone)]
 #[tactic(auto, using(demangle_nodes::proofs::Parts::parts_destructor_name))]
-pub fn clone_destructor_name(alloc: Global, node: &DestructorName) -> Result<DestructorName>
+pub fn clone_destructor_name(
+    alloc: Global,
+    node: &DestructorName,
+) -> Result<DestructorName, AllocError>
     ensures same_tag { IfOk result (λ r. tag_of_destructor_name r ≡ tag_of_destructor_name node.now) }
     ensures same_parts { IfOk result (λ r. parts_of_destructor_name r ≡ parts_of_destructor_name node.now) }
-    ensures refused { IfErr result (λ e. e ≡ OutOfMemory) }
 {
     match node {
         DestructorName::Unresolved(handle) => Ok(DestructorName::Unresolved(*handle)),
@@ -289,13 +286,12 @@ pub fn clone_destructor_name(alloc: Global, node: &DestructorName) -> Result<Des
     }
 }
 
-/// A copy with the same tree, `place` included. `OutOfMemory` is its only refusal.
+/// A copy with the same tree, `place` included. Want of memory is its only refusal.
 #[cycle(clone)]
 #[tactic(auto, using(demangle_nodes::proofs::Parts::parts_expr_primary))]
-pub fn clone_expr_primary(alloc: Global, node: &ExprPrimary) -> Result<ExprPrimary>
+pub fn clone_expr_primary(alloc: Global, node: &ExprPrimary) -> Result<ExprPrimary, AllocError>
     ensures same_tag { IfOk result (λ r. tag_of_expr_primary r ≡ tag_of_expr_primary node.now) }
     ensures same_parts { IfOk result (λ r. parts_of_expr_primary r ≡ parts_of_expr_primary node.now) }
-    ensures refused { IfErr result (λ e. e ≡ OutOfMemory) }
 {
     match node {
         ExprPrimary::Literal(handle, start, end) => Ok(ExprPrimary::Literal(*handle, *start, *end)),
@@ -306,13 +302,12 @@ pub fn clone_expr_primary(alloc: Global, node: &ExprPrimary) -> Result<ExprPrima
     }
 }
 
-/// A copy with the same tree, `place` included. `OutOfMemory` is its only refusal.
+/// A copy with the same tree, `place` included. Want of memory is its only refusal.
 #[cycle(clone)]
 #[tactic(auto, using(demangle_nodes::proofs::Parts::parts_local_name))]
-pub fn clone_local_name(alloc: Global, node: &LocalName) -> Result<LocalName>
+pub fn clone_local_name(alloc: Global, node: &LocalName) -> Result<LocalName, AllocError>
     ensures same_tag { IfOk result (λ r. tag_of_local_name r ≡ tag_of_local_name node.now) }
     ensures same_parts { IfOk result (λ r. parts_of_local_name r ≡ parts_of_local_name node.now) }
-    ensures refused { IfErr result (λ e. e ≡ OutOfMemory) }
 {
     match node {
         LocalName::Relative(encoding, name, discriminator) => {
@@ -332,13 +327,12 @@ pub fn clone_local_name(alloc: Global, node: &LocalName) -> Result<LocalName>
     }
 }
 
-/// A copy with the same tree, `place` included. `OutOfMemory` is its only refusal.
+/// A copy with the same tree, `place` included. Want of memory is its only refusal.
 #[cycle(clone)]
 #[tactic(auto, using(demangle_nodes::proofs::Parts::parts_special_name))]
-pub fn clone_special_name(alloc: Global, node: &SpecialName) -> Result<SpecialName>
+pub fn clone_special_name(alloc: Global, node: &SpecialName) -> Result<SpecialName, AllocError>
     ensures same_tag { IfOk result (λ r. tag_of_special_name r ≡ tag_of_special_name node.now) }
     ensures same_parts { IfOk result (λ r. parts_of_special_name r ≡ parts_of_special_name node.now) }
-    ensures refused { IfErr result (λ e. e ≡ OutOfMemory) }
 {
     match node {
         SpecialName::VirtualTable(handle) => Ok(SpecialName::VirtualTable(*handle)),
@@ -379,11 +373,13 @@ pub fn clone_special_name(alloc: Global, node: &SpecialName) -> Result<SpecialNa
     }
 }
 
-/// A copy with the same tree, `place` included. `OutOfMemory` is its only refusal.
+/// A copy with the same tree, `place` included. Want of memory is its only refusal.
 #[cycle(clone)]
-pub fn clone_subobject_expr(alloc: Global, node: &SubobjectExpr) -> Result<SubobjectExpr>
+pub fn clone_subobject_expr(
+    alloc: Global,
+    node: &SubobjectExpr,
+) -> Result<SubobjectExpr, AllocError>
     ensures same_parts { IfOk result (λ r. parts_of_subobject_expr r ≡ parts_of_subobject_expr node.now) }
-    ensures refused { IfErr result (λ e. e ≡ OutOfMemory) }
 {
     let expr = clone_boxed_expression(alloc, &node.expr)?;
     Ok(SubobjectExpr {
@@ -393,13 +389,12 @@ pub fn clone_subobject_expr(alloc: Global, node: &SubobjectExpr) -> Result<Subob
     })
 }
 
-/// A copy with the same tree, `place` included. `OutOfMemory` is its only refusal.
+/// A copy with the same tree, `place` included. Want of memory is its only refusal.
 #[cycle(clone)]
 #[tactic(auto, using(demangle_nodes::proofs::Parts::parts_fold_expr))]
-pub fn clone_fold_expr(alloc: Global, node: &FoldExpr) -> Result<FoldExpr>
+pub fn clone_fold_expr(alloc: Global, node: &FoldExpr) -> Result<FoldExpr, AllocError>
     ensures same_tag { IfOk result (λ r. tag_of_fold_expr r ≡ tag_of_fold_expr node.now) }
     ensures same_parts { IfOk result (λ r. parts_of_fold_expr r ≡ parts_of_fold_expr node.now) }
-    ensures refused { IfErr result (λ e. e ≡ OutOfMemory) }
 {
     match node {
         FoldExpr::UnaryLeft(operator, pack) => Ok(FoldExpr::UnaryLeft(
@@ -427,13 +422,12 @@ pub fn clone_fold_expr(alloc: Global, node: &FoldExpr) -> Result<FoldExpr>
     }
 }
 
-/// A copy with the same tree, `place` included. `OutOfMemory` is its only refusal.
+/// A copy with the same tree, `place` included. Want of memory is its only refusal.
 #[cycle(clone)]
 #[tactic(auto, using(demangle_nodes::proofs::Parts::parts_expression))]
-pub fn clone_expression(alloc: Global, node: &Expression) -> Result<Expression>
+pub fn clone_expression(alloc: Global, node: &Expression) -> Result<Expression, AllocError>
     ensures same_tag { IfOk result (λ r. tag_of_expression r ≡ tag_of_expression node.now) }
     ensures same_parts { IfOk result (λ r. parts_of_expression r ≡ parts_of_expression node.now) }
-    ensures refused { IfErr result (λ e. e ≡ OutOfMemory) }
 {
     match node {
         Expression::Unary(operator, operand) => Ok(Expression::Unary(
@@ -599,27 +593,27 @@ pub fn clone_expression(alloc: Global, node: &Expression) -> Result<Expression>
 }
 
 #[cycle(clone)]
-fn clone_boxed_expression(alloc: Global, node: &Expression) -> Result<Box<Expression>>
+fn clone_boxed_expression(alloc: Global, node: &Expression) -> Result<Box<Expression>, AllocError>
     ensures same_tag { IfOk result (λ r. tag_of_expression r.value ≡ tag_of_expression node.now) }
     ensures same_parts { IfOk result (λ r. parts_of_expression r.value ≡ parts_of_expression node.now) }
-    ensures refused { IfErr result (λ e. e ≡ OutOfMemory) }
 {
     boxed(alloc, clone_expression(alloc, node))
 }
 
 #[cycle(clone)]
-fn clone_boxed_encoding(alloc: Global, node: &Encoding) -> Result<Box<Encoding>>
+fn clone_boxed_encoding(alloc: Global, node: &Encoding) -> Result<Box<Encoding>, AllocError>
     ensures same_tag { IfOk result (λ r. tag_of_encoding r.value ≡ tag_of_encoding node.now) }
     ensures same_parts { IfOk result (λ r. parts_of_encoding r.value ≡ parts_of_encoding node.now) }
-    ensures refused { IfErr result (λ e. e ≡ OutOfMemory) }
 {
     boxed(alloc, clone_encoding(alloc, node))
 }
 
 #[cycle(clone)]
-fn clone_template_arg_list(alloc: Global, items: &[TemplateArg]) -> Result<Vec<TemplateArg>>
+fn clone_template_arg_list(
+    alloc: Global,
+    items: &[TemplateArg],
+) -> Result<Vec<TemplateArg>, AllocError>
     ensures same_trees { IfOk result (λ r. trees tag_of_template_arg parts_of_template_arg r.items ≡ trees tag_of_template_arg parts_of_template_arg items.now) }
-    ensures refused { IfErr result (λ e. e ≡ OutOfMemory) }
 {
     let mut copy = Vec::with_capacity(alloc, items.len())?;
     for item in items {
@@ -629,9 +623,8 @@ fn clone_template_arg_list(alloc: Global, items: &[TemplateArg]) -> Result<Vec<T
 }
 
 #[cycle(clone)]
-fn clone_expression_list(alloc: Global, items: &[Expression]) -> Result<Vec<Expression>>
+fn clone_expression_list(alloc: Global, items: &[Expression]) -> Result<Vec<Expression>, AllocError>
     ensures same_trees { IfOk result (λ r. trees tag_of_expression parts_of_expression r.items ≡ trees tag_of_expression parts_of_expression items.now) }
-    ensures refused { IfErr result (λ e. e ≡ OutOfMemory) }
 {
     let mut copy = Vec::with_capacity(alloc, items.len())?;
     for item in items {
@@ -644,9 +637,8 @@ fn clone_expression_list(alloc: Global, items: &[Expression]) -> Result<Vec<Expr
 fn clone_level_list(
     alloc: Global,
     items: &[UnresolvedQualifierLevel],
-) -> Result<Vec<UnresolvedQualifierLevel>>
+) -> Result<Vec<UnresolvedQualifierLevel>, AllocError>
     ensures same_trees { IfOk result (λ r. trees tag_of_unresolved_qualifier_level parts_of_unresolved_qualifier_level r.items ≡ trees tag_of_unresolved_qualifier_level parts_of_unresolved_qualifier_level items.now) }
-    ensures refused { IfErr result (λ e. e ≡ OutOfMemory) }
 {
     let mut copy = Vec::with_capacity(alloc, items.len())?;
     for item in items {
@@ -655,15 +647,14 @@ fn clone_level_list(
     Ok(copy)
 }
 
-/// A copy with the same tree, `place` included. `OutOfMemory` is its only refusal.
+/// A copy with the same tree, `place` included. Want of memory is its only refusal.
 #[cycle(clone)]
 pub fn clone_optional_template_args(
     alloc: Global,
     node: &Option<TemplateArgs>,
-) -> Result<Option<TemplateArgs>>
+) -> Result<Option<TemplateArgs>, AllocError>
     ensures same_tag { IfOk result (λ r. tag_of_option r ≡ tag_of_option node.now) }
     ensures same_parts { IfOk result (λ r. parts_of_option tree_of_template_args r ≡ parts_of_option tree_of_template_args node.now) }
-    ensures refused { IfErr result (λ e. e ≡ OutOfMemory) }
 {
     match node {
         None => Ok(None),
@@ -675,10 +666,9 @@ pub fn clone_optional_template_args(
 fn clone_optional_initializer(
     alloc: Global,
     node: &Option<Initializer>,
-) -> Result<Option<Initializer>>
+) -> Result<Option<Initializer>, AllocError>
     ensures same_tag { IfOk result (λ r. tag_of_option r ≡ tag_of_option node.now) }
     ensures same_parts { IfOk result (λ r. parts_of_option tree_of_initializer r ≡ parts_of_option tree_of_initializer node.now) }
-    ensures refused { IfErr result (λ e. e ≡ OutOfMemory) }
 {
     match node {
         None => Ok(None),
@@ -687,10 +677,12 @@ fn clone_optional_initializer(
 }
 
 #[cycle(clone)]
-fn clone_optional_name(alloc: Global, node: &Option<Box<Name>>) -> Result<Option<Box<Name>>>
+fn clone_optional_name(
+    alloc: Global,
+    node: &Option<Box<Name>>,
+) -> Result<Option<Box<Name>>, AllocError>
     ensures same_tag { IfOk result (λ r. tag_of_option r ≡ tag_of_option node.now) }
     ensures same_parts { IfOk result (λ r. parts_of_option boxed_name r ≡ parts_of_option boxed_name node.now) }
-    ensures refused { IfErr result (λ e. e ≡ OutOfMemory) }
 {
     match node {
         None => Ok(None),
@@ -700,33 +692,41 @@ fn clone_optional_name(alloc: Global, node: &Option<Box<Name>>) -> Result<Option
 
 // What is dropped where memory is wanting is dropped here, so that in the cycle only the copies of lists have a copy half
 // made to drop.
-fn boxed<A: Drop>(alloc: Global, value: Result<A>) -> Result<Box<A>>
-    requires { IfErr value (λ e. e ≡ OutOfMemory) }
+fn boxed<A: Drop>(alloc: Global, value: Result<A, AllocError>) -> Result<Box<A>, AllocError>
     ensures inside { IfOk result (λ r. value ≡ Ok r.value) }
-    ensures refused { IfErr result (λ e. e ≡ OutOfMemory) }
 {
     let value = value?;
     Ok(Box::new(alloc, value)?)
 }
 
-fn both<A: Drop, B: Drop>(one: Result<A>, other: Result<B>) -> Result<(A, B)>
-    requires one_refused { IfErr one (λ e. e ≡ OutOfMemory) }
-    requires other_refused { IfErr other (λ e. e ≡ OutOfMemory) }
+fn both<A: Drop, B: Drop>(
+    one: Result<A, AllocError>,
+    other: Result<B, AllocError>,
+) -> Result<(A, B), AllocError>
     ensures first { IfOk result (λ r. one ≡ Ok r.0) }
     ensures second { IfOk result (λ r. other ≡ Ok r.1) }
-    ensures refused { IfErr result (λ e. e ≡ OutOfMemory) }
 {
     Ok((one?, other?))
 }
 
-fn all_three<A: Drop>(one: Result<A>, other: Result<A>, last: Result<A>) -> Result<(A, A, A)>
-    requires one_refused { IfErr one (λ e. e ≡ OutOfMemory) }
-    requires other_refused { IfErr other (λ e. e ≡ OutOfMemory) }
-    requires last_refused { IfErr last (λ e. e ≡ OutOfMemory) }
+fn all_three<A: Drop>(
+    one: Result<A, AllocError>,
+    other: Result<A, AllocError>,
+    last: Result<A, AllocError>,
+) -> Result<(A, A, A), AllocError>
     ensures first { IfOk result (λ r. one ≡ Ok r.0) }
     ensures second { IfOk result (λ r. other ≡ Ok r.1) }
     ensures third { IfOk result (λ r. last ≡ Ok r.2) }
-    ensures refused { IfErr result (λ e. e ≡ OutOfMemory) }
 {
     Ok((one?, other?, last?))
+}
+
+// A copy of a node below these, whose only error is want of memory.
+fn of_leaf<A>(copy: demangle_text::Result<A>) -> Result<A, AllocError>
+    ensures inside { IfOk result (λ r. copy ≡ Ok r) }
+{
+    match copy {
+        Ok(copy) => Ok(copy),
+        Err(_) => Err(AllocError),
+    }
 }
