@@ -1,2 +1,4 @@
+pub mod Runs
 pub mod Starts
+pub mod Utf8
 pub mod Digits

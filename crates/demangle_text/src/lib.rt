@@ -3,6 +3,7 @@
 #![tactic(auto)]
 
 mod error;
+mod identifier;
 mod index_str;
 mod number;
 mod options;
@@ -11,6 +12,7 @@ mod tests;
 mod word;
 
 pub use error::{Error, Result};
+pub use identifier::identifier_len;
 pub use index_str::IndexStr;
 pub use number::{parse_number, parse_unsigned};
 pub use options::ParseOptions;
