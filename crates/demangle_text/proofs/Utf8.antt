@@ -1,9 +1,9 @@
 -- The sequences of the table are the characters past U+007F: each is one character's, and each character's is one of them.
-use Rattle.std.proofs.Common.{◌≡◌, ℕ, zero, suc, ◌+◌, ◌-◌, ◌*◌, ◌/◌, ◌%◌, ◌<◌, ◌≤◌, Bool, true, false, List, [], ◌∷◌, ◌++◌, length, take, refl, sym, ap, ◌∙◌, subst, inl, inr, arith, lt-ltb, le-ltb}
+use Rattle.std.proofs.Common.{◌≡◌, ℕ, ◌+◌, ◌-◌, ◌*◌, ◌/◌, ◌%◌, ◌<◌, ◌≤◌, Bool, true, false, ◌&&◌, List, [], ◌∷◌, ◌++◌, length, take, refl, sym, ap, ◌∙◌, subst, inl, inr, arith, lt-ltb, le-ltb, lit≤, ◌⊎◌, if◌then◌else◌}
 use Rattle.std.proofs.lemmas.Bool.{cond-true, cond-false, and_parts, cases_lt}
 use Rattle.std.proofs.lemmas.Bool.Decides.{nat_tests}
-use Rattle.std.specs.Char.{IsScalar, encode_utf8}
-use lib.Utf8.{scalar}
+use Rattle.std.specs.Char.{encode_utf8}
+use lib.Utf8.{scalar, scalar_cases}
 use Rattle.demangle_text.specs.Bytes.{within}
 use Rattle.demangle_text.specs.Characters.{tail, sequences, fits_ranges, sequence_in, sequence_len}
 
@@ -63,9 +63,6 @@ of_four a b d x f g k low high over s =
 in_range : (low high b : ℕ) (z : Bool) → (within low high b && z) ≡ true → (low ≤ b) × (b ≤ high) × (z ≡ true)
 in_range low high b z e = let p = and_parts (within low high b) z e in (grind (arith, nat_tests, p.0), grind (arith, nat_tests, p.0), p.1)
 
-abbrev Rows : Type 0
-Rows = List (ℕ × ℕ)
-
 two_fit : (p q r s : ℕ) (bs : List ℕ) → fits_ranges ((p, q) ∷ (r, s) ∷ []) bs ≡ true →
     (a : ℕ) × (b : ℕ) × (take 2 bs ≡ a ∷ b ∷ []) × (p ≤ a) × (a ≤ q) × (r ≤ b) × (b ≤ s)
 two_fit p q r s [] e = absurd (grind arith)
@@ -102,3 +99,98 @@ four_of p q r s bs low high under over is e =
     let h = four_fit p q r s bs e in
     let k = is h.0 h.1 h.2 h.3 h.5 h.6 h.7 h.8 h.9 h.10 in
     subst IsPastAscii (sym h.4) (of_four h.0 h.1 h.2 h.3 (omega (arith, h.7), omega (arith, h.8)) h.9 h.10 (omega (arith, h.5)) (omega (arith, h.6)) k.0 k.1)
+
+-- what fits the ranges is a character past U+007F
+abbrev IsOfChars : List (ℕ × ℕ) → Type 0
+IsOfChars rs = (bs : List ℕ) → fits_ranges rs bs ≡ true → IsPastAscii (take (length rs) bs)
+
+abbrev EachIsOfChars : List (List (ℕ × ℕ)) → Type 0
+EachIsOfChars [] = Unit {0}
+EachIsOfChars (rs ∷ more) = IsOfChars rs × EachIsOfChars more
+
+row_two : IsOfChars ((0xC2, 0xDF) ∷ tail ∷ [])
+row_two bs e = let h = two_fit 0xC2 0xDF 0x80 0xBF bs e in subst IsPastAscii (sym h.2) (of_two h.0 h.1 h.3 h.4 (h.5, h.6))
+
+rows_are : EachIsOfChars sequences
+rows_are = (
+  row_two,
+  (λ bs. three_of 0xE0 0xE0 0xA0 0xBF bs (lit≤ tt) (lit≤ tt) (lit≤ tt) (lit≤ tt) (λ a b d l h m n f. (omega (arith, f.0), grind (arith, nat_tests, f.0, f.1))),
+  (λ bs. three_of 0xE1 0xEC 0x80 0xBF bs (lit≤ tt) (lit≤ tt) (lit≤ tt) (lit≤ tt) (λ a b d l h m n f. (omega (arith, f.0), grind (arith, nat_tests, f.0, f.1))),
+  (λ bs. three_of 0xED 0xED 0x80 0x9F bs (lit≤ tt) (lit≤ tt) (lit≤ tt) (lit≤ tt) (λ a b d l h m n f. (omega (arith, f.0), grind (arith, nat_tests, f.0, f.1))),
+  (λ bs. three_of 0xEE 0xEF 0x80 0xBF bs (lit≤ tt) (lit≤ tt) (lit≤ tt) (lit≤ tt) (λ a b d l h m n f. (omega (arith, f.0), grind (arith, nat_tests, f.0, f.1))),
+  (λ bs. four_of 0xF0 0xF0 0x90 0xBF bs (lit≤ tt) (lit≤ tt) (lit≤ tt) (lit≤ tt) (λ a b d x l h m n f g. (omega (arith, f.0, g.0), grind (arith, nat_tests, f.0, f.1, g.0, g.1))),
+  (λ bs. four_of 0xF1 0xF3 0x80 0xBF bs (lit≤ tt) (lit≤ tt) (lit≤ tt) (lit≤ tt) (λ a b d x l h m n f g. (omega (arith, f.0, g.0), grind (arith, nat_tests, f.0, f.1, g.0, g.1))),
+  (λ bs. four_of 0xF4 0xF4 0x80 0x8F bs (lit≤ tt) (lit≤ tt) (lit≤ tt) (lit≤ tt) (λ a b d x l h m n f g. (omega (arith, f.0, g.0), grind (arith, nat_tests, f.0, f.1, g.0, g.1))),
+  tt))))))),
+)
+
+sequence_is : (more : List (List (ℕ × ℕ))) (bs : List ℕ) → EachIsOfChars more → 0 < sequence_in more bs → IsPastAscii (take (sequence_in more bs) bs)
+sequence_is [] bs h some = absurd (omega (arith, some))
+sequence_is (rs ∷ more) bs h some = by (fits_ranges rs bs) refl (sequence_is more bs h.1)
+  where
+    by : (z : Bool) → fits_ranges rs bs ≡ z → (0 < sequence_in more bs → IsPastAscii (take (sequence_in more bs) bs)) → IsPastAscii (take (sequence_in (rs ∷ more) bs) bs)
+    by true e k = rw e (h.0 bs e)
+    by false e k = rw e (k (subst (λ z. 0 < (if z then length rs else sequence_in more bs)) e some))
+
+-- a sequence at the front is a character past U+007F
+pub sequence_char : (bs : List ℕ) → 0 < sequence_len bs → IsPastAscii (take (sequence_len bs) bs)
+unfolding sequence_len
+sequence_char bs h = sequence_is sequences bs rows_are h
+
+-- ---- of a character: its sequence
+char_two : (a b : ℕ) (bs : List ℕ) → 0xC2 ≤ a → a ≤ 0xDF → Follows b → sequence_len (a ∷ b ∷ bs) ≡ 2
+unfolding sequence_len
+char_two a b bs low high f = grind (arith, nat_tests, f.0, f.1)
+
+-- which seconds may stand behind a first byte
+abbrev Second : ℕ → ℕ → Type 0
+Second a b = (a ≡ 0xE0 → 0xA0 ≤ b) × (a ≡ 0xED → b ≤ 0x9F) × (a ≡ 0xF0 → 0x90 ≤ b) × (a ≡ 0xF4 → b ≤ 0x8F)
+
+char_three : (a b d : ℕ) (bs : List ℕ) → 0xE0 ≤ a → a ≤ 0xEF → Follows b → Follows d → Second a b → sequence_len (a ∷ b ∷ d ∷ bs) ≡ 3
+unfolding sequence_len
+char_three a b d bs low high f g s = grind (arith, nat_tests, f.0, f.1, g.0, g.1, s.0, s.1)
+
+char_four : (a b d x : ℕ) (bs : List ℕ) → 0xF0 ≤ a → a ≤ 0xF4 → Follows b → Follows d → Follows x → Second a b → sequence_len (a ∷ b ∷ d ∷ x ∷ bs) ≡ 4
+unfolding sequence_len
+char_four a b d x bs low high f g k s = grind (arith, nat_tests, f.0, f.1, g.0, g.1, k.0, k.1, s.2, s.3)
+
+follows : (c : ℕ) → Follows (128 + c % 64)
+follows c = (omega arith, omega arith)
+
+-- what a character's number says
+scalar_range : (c : ℕ) → scalar c ≡ true → (c < 0xD800) ⊎ ((0xE000 ≤ c) × (c < 0x11_0000))
+scalar_range c e = scalar_cases c e
+
+pub char_sequence : (c : ℕ) (bs : List ℕ) → 0x80 ≤ c → scalar c ≡ true → sequence_len (encode_utf8 c ++ bs) ≡ length (encode_utf8 c)
+char_sequence c bs low s = elim (cases_lt c 0x800) [
+  | inl two ↦ rw (encode_two c low two) (char_two (192 + c / 64) (128 + c % 64) bs (omega arith) (omega arith) (follows c))
+  | inr from_three ↦ elim (cases_lt c 0x1_0000) [
+    | inl three ↦ rw (encode_three c from_three three) (char_three (224 + c / 4096) (128 + (c / 64) % 64) (128 + c % 64) bs
+        (omega arith) (omega arith) (follows (c / 64)) (follows c)
+        (λ e. omega (arith, e), λ e. elim (scalar_range c s) [ inl h ↦ omega (arith, e, h) | inr h ↦ absurd (omega (arith, e, h.0)) ],
+        λ e. absurd (omega (arith, e)), λ e. absurd (omega (arith, e))))
+    | inr four ↦ let top : c < 0x11_0000 = elim (scalar_range c s) [ inl h ↦ omega (arith, h) | inr h ↦ h.1 ] in
+        rw (encode_four c four) (char_four (240 + c / 262144) (128 + (c / 4096) % 64) (128 + (c / 64) % 64) (128 + c % 64) bs
+        (omega arith) (omega (arith, top)) (follows (c / 4096)) (follows (c / 64)) (follows c)
+        (λ e. absurd (omega (arith, e, top)), λ e. absurd (omega (arith, e, top)), λ e. omega (arith, e), λ e. omega (arith, e, top)))
+  ]
+]
+
+-- ---- the first byte
+other_low : (b : ℕ) (bs : List ℕ) → b < 0xC2 → sequence_len (b ∷ bs) ≡ 0
+unfolding sequence_len
+other_low b bs h = grind (arith, nat_tests)
+
+other_high : (b : ℕ) (bs : List ℕ) → 0xF4 < b → sequence_len (b ∷ bs) ≡ 0
+unfolding sequence_len
+other_high b bs h = grind (arith, nat_tests)
+
+pub sequence_begins : (b : ℕ) (bs : List ℕ) → 0 < sequence_len (b ∷ bs) → (0xC2 ≤ b) × (b ≤ 0xF4)
+sequence_begins b bs h = elim (cases_lt b 0xC2) [
+  | inl low ↦ absurd (omega (arith, h, other_low b bs low))
+  | inr from ↦ elim (cases_lt 0xF4 b) [ inl high ↦ absurd (omega (arith, h, other_high b bs high)) | inr to ↦ (from, to) ]
+]
+
+pub no_sequence : sequence_len [] ≡ 0
+unfolding sequence_len
+no_sequence = refl

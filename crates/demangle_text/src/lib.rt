@@ -1,5 +1,5 @@
 //! What every reader of a mangled name stands on: slices that know their index in the input, words and numbers of the
-//! grammar, the options of reading, and the errors.
+//! grammar, identifiers in UTF-8, the options of reading, and the errors.
 #![tactic(auto)]
 
 mod error;
@@ -12,7 +12,9 @@ mod tests;
 mod word;
 
 pub use error::{Error, Result};
-pub use identifier::identifier_len;
+pub use identifier::{
+    chars_are_text, identifier_len, run_begins, run_is_chars, run_is_inside, run_is_longest, run_is_whole,
+};
 pub use index_str::IndexStr;
 pub use number::{parse_number, parse_unsigned};
 pub use options::ParseOptions;

@@ -1,4 +1,4 @@
-use Rattle.std.proofs.Common.{drop, length-drop, arith}
+use Rattle.std.proofs.Common.{length-drop, arith}
 use Rattle.std.proofs.lemmas.Grind.{common_steps}
 use Rattle.demangle_text.proofs.Runs.{turn}
 use Rattle.demangle_text.proofs.identifier.identifier_len.Goals as goal
