@@ -72,9 +72,11 @@ char_found c bs e = elim (cases_lt c 128) [
 -- ---- the run
 -- one character, and others behind it
 one_more : (xs ys : List ℕ) → IsChar xs → AreIdentifierChars ys → AreIdentifierChars (xs ++ ys)
-one_more xs ys x y =
-    (x.0 ∷ y.0, and_from (is_identifier_char x.0) (list_all is_identifier_char y.0) x.1 y.1,
-    ap (λ zs. zs ++ encode_utf8_all y.0) x.2 ∙ ap (λ zs. xs ++ zs) y.2)
+one_more xs ys x y = (
+  x.0 ∷ y.0,
+  and_from (is_identifier_char x.0) (list_all is_identifier_char y.0) x.1 y.1,
+  ap (λ zs. zs ++ encode_utf8_all y.0) x.2 ∙ ap (λ zs. xs ++ zs) y.2,
+)
 
 run_ended : (bs : List ℕ) → char_len bs ≡ 0 → AreIdentifierChars (take (identifier_len bs) bs)
 run_ended bs e = subst (λ m. AreIdentifierChars (take m bs)) (sym (run_ends bs e)) ([], refl, refl)
@@ -101,8 +103,8 @@ longest (c ∷ cs) bs e =
     let found = char_found c more p.0 in
     let some : 0 < char_len (encode_utf8 c ++ more) = omega (arith, found, length-encode c, len_utf8_bounds c) in
     let step : identifier_len (encode_utf8 c ++ more) ≡ length (encode_utf8 c) + identifier_len more =
-        run_goes_on (encode_utf8 c ++ more) some ∙ ap (λ n. n + identifier_len (drop n (encode_utf8 c ++ more))) found
-        ∙ ap (λ xs. length (encode_utf8 c) + identifier_len xs) (drop-append_seam (encode_utf8 c) more) in
+    run_goes_on (encode_utf8 c ++ more) some ∙ ap (λ n. n + identifier_len (drop n (encode_utf8 c ++ more))) found
+    ∙ ap (λ xs. length (encode_utf8 c) + identifier_len xs) (drop-append_seam (encode_utf8 c) more) in
     ap identifier_len (append_assoc (encode_utf8 c) (encode_utf8_all cs) bs) ∙ omega (arith, step, longest cs bs p.1, length-append (encode_utf8 c) (encode_utf8_all cs))
 
 pub run_is_longest : (xs bs : List ℕ) → AreIdentifierChars xs → identifier_len (xs ++ bs) ≡ length xs + identifier_len bs
@@ -113,6 +115,7 @@ run_is_whole bs = (whole, chars)
   where
     whole : AreIdentifierChars bs → identifier_len bs ≡ length bs
     whole h = ap identifier_len (sym (append-nil bs)) ∙ run_is_longest bs [] h ∙ omega arith
+
     chars : identifier_len bs ≡ length bs → AreIdentifierChars bs
     chars e = subst AreIdentifierChars (ap (λ n. take n bs) e ∙ take_all (length bs) bs (omega arith)) (run_is_chars bs)
 

@@ -114,14 +114,28 @@ row_two bs e = let h = two_fit 0xC2 0xDF 0x80 0xBF bs e in subst IsPastAscii (sy
 rows_are : EachIsOfChars sequences
 rows_are = (
   row_two,
-  (λ bs. three_of 0xE0 0xE0 0xA0 0xBF bs (lit≤ tt) (lit≤ tt) (lit≤ tt) (lit≤ tt) (λ a b d l h m n f. (omega (arith, f.0), grind (arith, nat_tests, f.0, f.1))),
-  (λ bs. three_of 0xE1 0xEC 0x80 0xBF bs (lit≤ tt) (lit≤ tt) (lit≤ tt) (lit≤ tt) (λ a b d l h m n f. (omega (arith, f.0), grind (arith, nat_tests, f.0, f.1))),
-  (λ bs. three_of 0xED 0xED 0x80 0x9F bs (lit≤ tt) (lit≤ tt) (lit≤ tt) (lit≤ tt) (λ a b d l h m n f. (omega (arith, f.0), grind (arith, nat_tests, f.0, f.1))),
-  (λ bs. three_of 0xEE 0xEF 0x80 0xBF bs (lit≤ tt) (lit≤ tt) (lit≤ tt) (lit≤ tt) (λ a b d l h m n f. (omega (arith, f.0), grind (arith, nat_tests, f.0, f.1))),
-  (λ bs. four_of 0xF0 0xF0 0x90 0xBF bs (lit≤ tt) (lit≤ tt) (lit≤ tt) (lit≤ tt) (λ a b d x l h m n f g. (omega (arith, f.0, g.0), grind (arith, nat_tests, f.0, f.1, g.0, g.1))),
-  (λ bs. four_of 0xF1 0xF3 0x80 0xBF bs (lit≤ tt) (lit≤ tt) (lit≤ tt) (lit≤ tt) (λ a b d x l h m n f g. (omega (arith, f.0, g.0), grind (arith, nat_tests, f.0, f.1, g.0, g.1))),
-  (λ bs. four_of 0xF4 0xF4 0x80 0x8F bs (lit≤ tt) (lit≤ tt) (lit≤ tt) (lit≤ tt) (λ a b d x l h m n f g. (omega (arith, f.0, g.0), grind (arith, nat_tests, f.0, f.1, g.0, g.1))),
-  tt))))))),
+  (
+    λ bs. three_of 0xE0 0xE0 0xA0 0xBF bs (lit≤ tt) (lit≤ tt) (lit≤ tt) (lit≤ tt) (λ a b d l h m n f. (omega (arith, f.0), grind (arith, nat_tests, f.0, f.1))),
+    (
+      λ bs. three_of 0xE1 0xEC 0x80 0xBF bs (lit≤ tt) (lit≤ tt) (lit≤ tt) (lit≤ tt) (λ a b d l h m n f. (omega (arith, f.0), grind (arith, nat_tests, f.0, f.1))),
+      (
+        λ bs. three_of 0xED 0xED 0x80 0x9F bs (lit≤ tt) (lit≤ tt) (lit≤ tt) (lit≤ tt) (λ a b d l h m n f. (omega (arith, f.0), grind (arith, nat_tests, f.0, f.1))),
+        (
+          λ bs. three_of 0xEE 0xEF 0x80 0xBF bs (lit≤ tt) (lit≤ tt) (lit≤ tt) (lit≤ tt) (λ a b d l h m n f. (omega (arith, f.0), grind (arith, nat_tests, f.0, f.1))),
+          (
+            λ bs. four_of 0xF0 0xF0 0x90 0xBF bs (lit≤ tt) (lit≤ tt) (lit≤ tt) (lit≤ tt) (λ a b d x l h m n f g. (omega (arith, f.0, g.0), grind (arith, nat_tests, f.0, f.1, g.0, g.1))),
+            (
+              λ bs. four_of 0xF1 0xF3 0x80 0xBF bs (lit≤ tt) (lit≤ tt) (lit≤ tt) (lit≤ tt) (λ a b d x l h m n f g. (omega (arith, f.0, g.0), grind (arith, nat_tests, f.0, f.1, g.0, g.1))),
+              (
+                λ bs. four_of 0xF4 0xF4 0x80 0x8F bs (lit≤ tt) (lit≤ tt) (lit≤ tt) (lit≤ tt) (λ a b d x l h m n f g. (omega (arith, f.0, g.0), grind (arith, nat_tests, f.0, f.1, g.0, g.1))),
+                tt,
+              ),
+            ),
+          ),
+        ),
+      ),
+    ),
+  ),
 )
 
 sequence_is : (more : List (List (ℕ × ℕ))) (bs : List ℕ) → EachIsOfChars more → 0 < sequence_in more bs → IsPastAscii (take (sequence_in more bs) bs)
@@ -166,9 +180,12 @@ char_sequence c bs low s = elim (cases_lt c 0x800) [
   | inl two ↦ rw (encode_two c low two) (char_two (192 + c / 64) (128 + c % 64) bs (omega arith) (omega arith) (follows c))
   | inr from_three ↦ elim (cases_lt c 0x1_0000) [
     | inl three ↦ rw (encode_three c from_three three) (char_three (224 + c / 4096) (128 + (c / 64) % 64) (128 + c % 64) bs
-        (omega arith) (omega arith) (follows (c / 64)) (follows c)
-        (λ e. omega (arith, e), λ e. elim (scalar_range c s) [ inl h ↦ omega (arith, e, h) | inr h ↦ absurd (omega (arith, e, h.0)) ],
-        λ e. absurd (omega (arith, e)), λ e. absurd (omega (arith, e))))
+        (omega arith) (omega arith) (follows (c / 64)) (follows c) (
+          λ e. omega (arith, e),
+          λ e. elim (scalar_range c s) [ inl h ↦ omega (arith, e, h) | inr h ↦ absurd (omega (arith, e, h.0)) ],
+          λ e. absurd (omega (arith, e)),
+          λ e. absurd (omega (arith, e)),
+        ))
     | inr four ↦ let top : c < 0x11_0000 = elim (scalar_range c s) [ inl h ↦ omega (arith, h) | inr h ↦ h.1 ] in
         rw (encode_four c four) (char_four (240 + c / 262144) (128 + (c / 4096) % 64) (128 + (c / 64) % 64) (128 + c % 64) bs
         (omega arith) (omega (arith, top)) (follows (c / 4096)) (follows (c / 64)) (follows c)

@@ -1,7 +1,7 @@
 //! Identifiers in UTF-8.
 
 ghost use Rattle.std.specs.Prelude.{◌≡◌, ◌≤◌, length};
-ghost use Rattle.demangle_text.specs.Characters.{is_identifier_byte, sequence_len, char_len, identifier_len, RunIsInside, RunIsChars, RunIsLongest, RunIsWhole, RunBegins, CharsAreText};
+ghost use Rattle.demangle_text.specs.Characters.{is_identifier_byte, sequence_len, char_len, identifier_len};
 
 /// Whether an ASCII byte is a character of an identifier.
 fn is_identifier_byte(byte: u8) -> bool
@@ -57,33 +57,3 @@ pub fn identifier_len(bytes: &[u8]) -> usize
     }
     count
 }
-
-/// A run lies in the bytes.
-pub fn run_is_inside()
-    ensures { RunIsInside }
-{}
-
-/// A run is characters of an identifier.
-pub fn run_is_chars()
-    ensures { RunIsChars }
-{}
-
-/// A run goes on behind characters of an identifier: none of them ends a longer one.
-pub fn run_is_longest()
-    ensures { RunIsLongest }
-{}
-
-/// Bytes are characters of an identifier just where their run is the whole.
-pub fn run_is_whole()
-    ensures { RunIsWhole }
-{}
-
-/// A run begins with a byte with which a character of an identifier can begin.
-pub fn run_begins()
-    ensures { RunBegins }
-{}
-
-/// Characters of an identifier are UTF-8, so that their bytes can be taken as a `str`.
-pub fn chars_are_text()
-    ensures { CharsAreText }
-{}

@@ -5,6 +5,7 @@
 mod error;
 mod identifier;
 mod index_str;
+mod laws;
 mod number;
 mod options;
 #[cfg(test)]
@@ -12,10 +13,12 @@ mod tests;
 mod word;
 
 pub use error::{Error, Result};
-pub use identifier::{
-    chars_are_text, identifier_len, run_begins, run_is_chars, run_is_inside, run_is_longest, run_is_whole,
-};
+pub use identifier::identifier_len;
 pub use index_str::IndexStr;
+pub use laws::{
+    chars_are_text, equal_is_same, run_begins, run_is_chars, run_is_inside, run_is_longest,
+    run_is_whole,
+};
 pub use number::{parse_number, parse_unsigned};
 pub use options::ParseOptions;
 pub use word::consume;
