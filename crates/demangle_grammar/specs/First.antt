@@ -4,6 +4,7 @@ use Rattle.demangle_grammar.specs.Rule.{Row, Rule, Leaf, Eat, Cond}
 use Rattle.demangle_grammar.specs.Rows.{rule}
 use Rattle.demangle_grammar.specs.Reading.{is_in}
 use Rattle.demangle_text.specs.Bytes.{is_digit}
+use Rattle.demangle_text.specs.Characters.{begins_char}
 use Rattle.demangle_text.specs.Number.{is_digit_in}
 
 -- ---- what can't be empty
@@ -15,6 +16,7 @@ no_empty ((b ∷ w) ∷ ws) = no_empty ws
 abbrev pub takes_leaf : Leaf → Bool
 takes_leaf (Leaf.word (b ∷ w)) = true
 takes_leaf (Leaf.eat (Eat.run c)) = true
+takes_leaf (Leaf.eat Eat.identifier) = true
 takes_leaf (Leaf.eat (Eat.byte c)) = true
 takes_leaf (Leaf.eat Eat.digit) = true
 takes_leaf (Leaf.eat (Eat.numeral base signs)) = true
@@ -54,6 +56,7 @@ heads ((c ∷ w) ∷ ws) b = (c == b) || heads ws b
 abbrev pub begins_leaf : Leaf → ℕ → Bool
 begins_leaf (Leaf.word (c ∷ w)) b = c == b
 begins_leaf (Leaf.eat (Eat.run c)) b = is_in c b
+begins_leaf (Leaf.eat Eat.identifier) b = begins_char b
 begins_leaf (Leaf.eat (Eat.byte c)) b = is_in c b
 begins_leaf (Leaf.eat Eat.digit) b = is_digit b
 begins_leaf (Leaf.eat (Eat.numeral base true)) b = (b == 110) || is_digit_in base b

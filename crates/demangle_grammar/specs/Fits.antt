@@ -7,6 +7,7 @@ use Rattle.demangle_grammar.specs.Tree.{Tree, How, nil, core, spell, components,
 use Rattle.demangle_grammar.specs.Rows.{rule}
 use Rattle.demangle_grammar.specs.Reading.{State, is_in, holds, marks, prefix_entry, is_nestable, given}
 use Rattle.demangle_text.specs.Bytes.{is_digit}
+use Rattle.demangle_text.specs.Characters.{AreIdentifierChars}
 use Rattle.demangle_text.specs.Number.{is_digit_in, leads_with_zero, value_of}
 
 abbrev pub AllOf : (ℕ → Bool) → List ℕ → Type 0
@@ -40,6 +41,7 @@ IsWordAt (suc k) (w ∷ ws) bs = IsWordAt k ws bs
 -- these bytes, from that index, are one of these, with these fields
 abbrev pub IsOne : Eat → ℕ → List ℕ → Core → Type 0
 IsOne (Eat.run c) at bs f = IsSome bs × AllOf (is_in c) bs × (f ≡ place at (at + length bs) end)
+IsOne Eat.identifier at bs f = IsSome bs × AreIdentifierChars bs × (f ≡ place at (at + length bs) end)
 IsOne (Eat.upto b) at bs f = AllOf (λ x. not (x == b)) bs × (f ≡ place at (at + length bs) end)
 IsOne (Eat.byte c) at bs f = (b : ℕ) × (is_in c b ≡ true) × (bs ≡ b ∷ []) × (f ≡ end)
 IsOne Eat.digit at bs f = (b : ℕ) × (is_digit b ≡ true) × (bs ≡ b ∷ []) × (f ≡ number (pos (b - 48)) end)

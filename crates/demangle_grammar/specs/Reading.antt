@@ -5,6 +5,7 @@ use Rattle.demangle_core.specs.Table.{Entry, count, entry_at}
 use Rattle.demangle_text.specs.Kind.{Cause, End, Text, Bad}
 use Rattle.demangle_text.specs.Found.{Found, took, none, mapped}
 use Rattle.demangle_text.specs.Bytes.{is_digit, is_capital, is_small, span}
+use Rattle.demangle_text.specs.Characters.{identifier_len}
 use Rattle.demangle_text.specs.Word.{starts, missing_word}
 use Rattle.demangle_text.specs.Number.{number_at, natural_at}
 use Rattle.demangle_vocab.specs.Table.{table_at, more_at}
@@ -34,7 +35,6 @@ abbrev pub is_in : Class → ℕ → Bool
 is_in Class.any x = true
 is_in Class.digits x = is_digit x
 is_in Class.clone x = is_digit x || (is_capital x || (is_small x || is_one_of (codes "$_") x))
-is_in Class.identifier x = is_digit x || (is_capital x || (is_small x || is_one_of (codes "$_.") x))
 is_in Class.resource x = not (x == 36)
 is_in (Class.these bs) x = is_one_of bs x
 
@@ -46,6 +46,10 @@ run_found at (suc n) = took (suc n) (place at (at + suc n) end)
 abbrev pub run_at : Class → ℕ → List ℕ → Found Core
 run_at c at [] = none End
 run_at c at bs = run_found at (span (is_in c) bs)
+
+abbrev pub identifier_at : ℕ → List ℕ → Found Core
+identifier_at at [] = none End
+identifier_at at bs = run_found at (identifier_len bs)
 
 abbrev pub byte_at : Class → List ℕ → Found Core
 byte_at c [] = none End
@@ -74,6 +78,7 @@ numeral_at base signs bs = mapped numbered (number_at base signs bs)
 
 abbrev pub find : Eat → ℕ → List ℕ → Found Core
 find (Eat.run c) at bs = run_at c at bs
+find Eat.identifier at bs = identifier_at at bs
 find (Eat.upto b) at bs = let n = span (λ x. not (x == b)) bs in took n (place at (at + n) end)
 find (Eat.byte c) at bs = byte_at c bs
 find Eat.digit at bs = digit_at bs

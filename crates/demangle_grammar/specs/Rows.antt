@@ -211,9 +211,9 @@ rule Row.number = eat (Eat.numeral 10 true) Rule.done
 rule Row.seq_id = (eat (Eat.numeral 36 false) · made Tag.SeqId) Rule.done
 -- <source-name> ::= <positive length number> <identifier> (5.1.2)
 rule Row.source_name = (sized (r Row.identifier) · made Tag.SourceName) Rule.done
--- <identifier> ::= <unqualified source code identifier> (5.1.2)
-rule Row.identifier = (eat (Eat.run Class.identifier) · made Tag.Identifier) Rule.done
--- the first part of a clone's suffix, with no dot
+-- <identifier> ::= <unqualified source code identifier> (5.1.2); past ASCII as compilers write it, in UTF-8
+rule Row.identifier = (eat Eat.identifier · made Tag.Identifier) Rule.done
+-- the first part of a clone's suffix: ASCII letters, digits, `$` and `_`
 rule Row.clone_type_identifier = (eat (Eat.run Class.clone) · made Tag.CloneTypeIdentifier) Rule.done
 -- <abi-tag> ::= B <source-name> (5.1.2)
 rule Row.abi_tag = (w "B" · r Row.source_name · made Tag.AbiTag) Rule.done

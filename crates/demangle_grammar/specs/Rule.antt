@@ -17,7 +17,7 @@ pub data Row : Type 0 where
 
 -- classes of bytes
 pub data Class : Type 0 where
-  any digits identifier clone resource : Class
+  any digits clone resource : Class
   these : List ℕ → Class
 
 -- fixed fields: true, false, no optional part, the number 0, an empty list
@@ -27,6 +27,7 @@ pub data Given : Type 0 where
 -- what is read with no other row
 pub data Eat : Type 0 where
   run : Class → Eat  -- the longest run of the class, not an empty one: a place
+  identifier : Eat  -- the longest run of characters of an identifier, in UTF-8, not an empty one: a place
   upto : ℕ → Eat  -- the bytes before the next such byte, or all: a place
   byte : Class → Eat  -- one byte of the class, which no field keeps
   digit : Eat  -- one digit: its number
