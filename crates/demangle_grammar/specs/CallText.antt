@@ -1,5 +1,6 @@
 -- The names of plain functions, and the text of such a name: `_Z3fooib` is `foo(int, bool)`.
-use Rattle.std.specs.Prelude.{ℕ, Bool, true, false, ◌&&◌, ◌||◌, ◌==◌, nat_le, nat_lt, List, [], ◌∷◌, ◌++◌, length, take, drop, Option, Some, None, Result, Ok, Err, if◌then◌else◌, codes}
+use Rattle.std.specs.Prelude.{ℕ, Bool, true, false, ◌&&◌, ◌||◌, ◌==◌, nat_le, nat_lt, List, [], ◌∷◌, ◌++◌, length, take}
+use Rattle.std.specs.Prelude.{drop, Option, Some, None, Result, Ok, Err, if◌then◌else◌, codes}
 use Rattle.demangle_text.specs.Kind.{Kind}
 use Rattle.demangle_text.specs.Characters.{identifier_len}
 use Rattle.demangle_text.specs.Found.{Found, took, none}
@@ -39,7 +40,8 @@ joined None b = None
 -- the texts of further types, each behind `, `
 abbrev pub further_types : List ℕ → Option (List ℕ)
 further_types [] = Some []
-further_types (b ∷ bs) = joined (Some (codes ", ")) (joined (letter_text (word_read builtin_words (b ∷ bs))) (further_types bs))
+further_types (b ∷ bs) =
+    joined (Some (codes ", ")) (joined (letter_text (word_read builtin_words (b ∷ bs))) (further_types bs))
 
 -- the texts of one or more types
 abbrev pub type_texts : List ℕ → Option (List ℕ)
