@@ -1,8 +1,8 @@
 """Reads definitions that are data: the clauses of an `.antt` file as terms, and terms as values.
 
-A term is ("name", n), ("str", text), ("num", n), or a kind and its parts: ("app", [head, arguments..]), ("seq", items) for
-a · b · .., ("alt", ways) for a // b // .., ("list", values) for a ∷ b ∷ [], ("fun", [body], parameter) for a λ.
-A path is the numbers of the parts on the way to a term within another one.
+A term is ("name", n), ("str", text), ("num", n), or a kind and its parts: ("app", [head, arguments..]),
+("seq", items) for a · b · .., ("alt", ways) for a // b // .., ("list", values) for a ∷ b ∷ [],
+("fun", [body], parameter) for a λ. A path is the numbers of the parts on the way to a term within another one.
 """
 import functools
 import os
@@ -179,11 +179,11 @@ def applied(value, argument):
 
 
 class Values:
-    """Terms as values: texts, numbers, lists, functions of one value, and constructors as tuples that begin with their name.
-    A name with a dot is a constructor.
+    """Terms as values: texts, numbers, lists, functions of one value, and constructors as tuples that begin with their
+    name. A name with a dot is a constructor.
 
-    `definitions` are parameters and body by name, `known` values of names that aren't defined. `mark(path, value)` is put
-    around what each part of a sequence or an alternative is, where the path begins with the definition's name.
+    `definitions` are parameters and body by name, `known` values of names that aren't defined. `mark(path, value)` is
+    put around what each part of a sequence or an alternative is; the path begins with the definition's name.
     """
 
     def __init__(self, definitions, known, mark=None):

@@ -1,9 +1,10 @@
 """Expected readings of rows: a line of a file for each.
 
-A line is a JSON object: `row` (of the grammar), `input` (one character a byte), `conv` (whether the conversion flag is on),
-`answer`, and `reach`, the deepest level that is entered. An answer is ["Yes", index behind, tree, entries] or ["No", kind]. An
-entry is the list, "N" or "U", and the tree; trees are texts as in syntax.py. In a file of expected answers that was made
-elsewhere the lengths of both lists stand in the entries' place, and `limit` may be a limit of levels, or null.
+A line is a JSON object: `row` (of the grammar), `input` (one character a byte), `conv` (whether the conversion flag is
+on), `answer`, and `reach`, the deepest level that is entered. An answer is ["Yes", index behind, tree, entries] or
+["No", kind]. An entry is the list, "N" or "U", and the tree; trees are texts as in syntax.py. In a file of expected
+answers that was made elsewhere the lengths of both lists stand in the entries' place, an answer may be ["Deep"], and
+`limit` is a limit of levels, or null.
 """
 import json
 import lzma
@@ -14,7 +15,9 @@ import typing
 import syntax
 
 FOLDER = os.path.join(os.path.dirname(os.path.abspath(__file__)), "readings")
-BY_HAND, CHOSEN, FIRSTS = (os.path.join(FOLDER, file) for file in ("by-hand.jsonl", "rows.jsonl.xz", "first-idle.json"))
+BY_HAND = os.path.join(FOLDER, "by-hand.jsonl")
+CHOSEN = os.path.join(FOLDER, "rows.jsonl.xz")
+FIRSTS = os.path.join(FOLDER, "first-idle.json")
 PARTS = ("Global", "Operators")  # parts of a row, which some files tell as if they were rows
 
 
@@ -39,8 +42,13 @@ def camel(row):
     return "".join(word.capitalize() for word in row[4:].split("_"))
 
 
-def kind_of(row):
-    return "number" if row == "Row.number" else camel(row)
+def kind_of(name):
+    """The type of what a row reads."""
+    return "number" if name == "Number" else name
+
+
+def tree_of(name, text):
+    return syntax.tree_of(kind_of(name), text)
 
 
 def lines(path):
@@ -57,7 +65,7 @@ def case_of(line):
     answer, entries = tuple(line["answer"]), ()
     if answer[0] == "Yes":
         entries = tuple((which, (syntax.tree_of("Substitutable", text),)) for which, text in answer[3])
-        answer = "Yes", answer[1], (syntax.tree_of(kind_of(row), answer[2]),)
+        answer = "Yes", answer[1], (tree_of(line["row"], answer[2]),)
     return Case(row, data, conversion, answer, entries, line["reach"])
 
 
@@ -65,8 +73,9 @@ def line_of(case):
     answer = list(case.answer)
     if answer[0] == "Yes":
         entries = [[which, syntax.told("Substitutable", trees[0])] for which, trees in case.entries]
-        answer = ["Yes", answer[1], syntax.told(kind_of(case.row), answer[2][0]), entries]
-    return {"row": camel(case.row), "input": case.data.decode("latin-1"), "conv": case.conversion, "answer": answer, "reach": case.reach}
+        answer = ["Yes", answer[1], syntax.told(kind_of(camel(case.row)), answer[2][0]), entries]
+    return {"row": camel(case.row), "input": case.data.decode("latin-1"), "conv": case.conversion, "answer": answer,
+            "reach": case.reach}
 
 
 def load(path):

@@ -5,6 +5,7 @@ A subject has `edits`; `candidates(edit)`, the numbers of the readings that may 
 """
 import collections
 import multiprocessing
+import sys
 
 ENOUGH = 16  # how many readings that notice an edit are looked for
 TWICE = 2  # how many of the chosen ones are to notice an edit, where so many do
@@ -19,8 +20,13 @@ class Search:
         self.pool = multiprocessing.get_context("fork").Pool(processes)
 
     def noticing(self, tasks):
-        """For tasks of an edit's number, readings, and how many are enough: which of them notice it, by the edit's number."""
-        return dict(self.pool.imap_unordered(noticing, tasks, 8))
+        """For tasks of an edit's number, readings and how many are enough: which notice it, by the edit's number."""
+        found = {}
+        for number, ks in self.pool.imap_unordered(noticing, tasks, 8):
+            found[number] = ks
+            if len(found) % 500 == 0:
+                print(len(found), "of", len(tasks), "edits", file=sys.stderr, flush=True)
+        return found
 
 
 def noticing(task):
@@ -44,8 +50,8 @@ def first_noticing(subject, search):
 def all_noticing(subject, search, among):
     """For each edit which of these readings notice it."""
     among = set(among)
-    tasks = [(number, [k for k in subject.candidates(edit) if k in among], None) for number, edit in enumerate(subject.edits)]
-    return search.noticing(tasks)
+    candidates = [[k for k in subject.candidates(edit) if k in among] for edit in subject.edits]
+    return search.noticing([(number, ks, None) for number, ks in enumerate(candidates)])
 
 
 def wanted(noticed):
@@ -54,7 +60,8 @@ def wanted(noticed):
 
 
 def cover(noticed, given, cost):
-    """Readings that with the given ones notice each edit often enough: those with the most edits for their cost first."""
+    """Readings that with the given ones notice each edit often enough, those with the most edits for their cost first.
+    """
     left = wanted(noticed)
     edits_of = collections.defaultdict(set)
     for edit, ks in noticed.items():
@@ -93,8 +100,8 @@ def needed(chosen, given, noticed, cost):
 
 
 def chosen(subject, search, given):
-    """The readings that are enough, without the given ones, and how many are needed for what."""
+    """The readings that are enough beside the given ones."""
     first = first_noticing(subject, search)
     picked = cover(first, given, subject.cost)
     noticed = all_noticing(subject, search, picked)
-    return needed(picked, given, noticed, subject.cost) - set(given), first
+    return needed(picked, given, noticed, subject.cost) - set(given)

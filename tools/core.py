@@ -83,7 +83,9 @@ def front(row):
 def taken_of(entry, row):
     prefix, explicit = entry[0][2][0], row[:1] if row and row[0][0] == "chosen" else ()
     if prefix[1] == "PrefixTemplate":
-        return [node("NestedNameTemplateExplicitObject", [*row[1:], *explicit])] if explicit else [node("NestedNameTemplate", row)]
+        if explicit:
+            return [node("NestedNameTemplateExplicitObject", [*row[1:], *explicit])]
+        return [node("NestedNameTemplate", row)]
     if prefix[1] == "PrefixUnqualified":
         outer, name = node("Absent"), prefix[2]
     else:

@@ -8,7 +8,8 @@ from antt import app, arguments, head_of, name
 FAIL, NOTHING, COMMIT = name("fail"), name("nothing"), name("commit")
 MARKS = ["Mark.numbered'", "Mark.unnumbered'", "Mark.by_end"]
 COUNTS = {"vec": "vec1", "vec1": "vec", "opt": "present"}
-NEGATED = {"next": "not_next", "Cond.next": "Cond.not_next", "Cond.ahead": "Cond.not_ahead", "Cond.numbered": "Cond.unnumbered"}
+NEGATED = {"next": "not_next", "Cond.next": "Cond.not_next", "Cond.ahead": "Cond.not_ahead",
+           "Cond.numbered": "Cond.unnumbered"}
 NEGATED.update({new: old for old, new in NEGATED.items()})
 GIVENS = {"set": "unset", "unset": "set", "missing": "empty", "empty": "missing", "nought": "missing"}
 CALLS = {"r": ("same_level", "one_level_more"), "Rule.loop": ("loop_same_level", "loop_one_level_more")}
@@ -38,6 +39,10 @@ def other_bytes(text):
             yield "word's byte dropped", text[:i] + text[i + 1:], ""
 
 
+def joined(kind, parts):
+    return (kind, parts) if len(parts) > 1 else parts[0]
+
+
 class RowEdits:
     def __init__(self, rows):
         self.definitions = rows.definitions
@@ -52,13 +57,15 @@ class RowEdits:
             if definition in BASIC:
                 continue
             kind = self.kinds.get(definition, "Item")
-            found = {"Item": self.of_item, "String": self.of_class}.get(kind, lambda term, path: ())(body, ())
-            for kind, path, new, only, *part in found:
+            edits_of = {"Item": self.of_item, "String": self.of_class}.get(kind, lambda term, path: ())
+            for kind, path, new, only, *part in edits_of(body, ()):
                 if definition.startswith("Row.") and kind == "commit added" and not path:
                     continue  # a row's failure is no mark to those that read it
-                yield Edit(kind, definition, path + tuple(part), antt.within(body, path), new, antt.replaced(body, path, new), only)
+                old, whole = antt.within(body, path), antt.replaced(body, path, new)
+                yield Edit(kind, definition, path + tuple(part), old, new, whole, only)
 
-    # each: the kind, the path of what is replaced, the new term, the bytes that tell, and the part that tells where it isn't all
+    # each gives the kind, the path of what is replaced, the new term, the bytes that tell, and the part that must be
+    # reached where it isn't all of what is replaced
     def of_item(self, term, path):
         if term[0] == "seq":
             yield from self.of_sequence(term[1], path)
@@ -72,8 +79,8 @@ class RowEdits:
     def of_sequence(self, items, path):
         marked = items.index(COMMIT) if COMMIT in items else len(items)
         for i, item in enumerate(items):
-            rest = items[:i] + items[i + 1:]
-            yield ("commit" if item == COMMIT else "item") + " dropped", path, ("seq", rest) if len(rest) > 1 else rest[0], "", i
+            what = "commit" if item == COMMIT else "item"
+            yield what + " dropped", path, joined("seq", items[:i] + items[i + 1:]), "", i
             if i:
                 swapped = items[:i - 1] + [item, items[i - 1]] + items[i + 1:]
                 kind = "commit moved" if COMMIT in (item, items[i - 1]) else "items exchanged"
@@ -87,10 +94,10 @@ class RowEdits:
 
     def of_ways(self, ways, path):
         for i, way in enumerate(ways):
-            rest = ways[:i] + ways[i + 1:]
-            yield "alternative dropped", path, ("alt", rest) if len(rest) > 1 else rest[0], "", i
+            yield "alternative dropped", path, joined("alt", ways[:i] + ways[i + 1:]), "", i
             if i:
-                yield "alternatives exchanged", path, ("alt", ways[:i - 1] + [way, ways[i - 1]] + ways[i + 1:]), "", i - 1
+                swapped = ways[:i - 1] + [way, ways[i - 1]] + ways[i + 1:]
+                yield "alternatives exchanged", path, ("alt", swapped), "", i - 1
             yield from self.of_item(way, path + (i,))
 
     def of_single(self, term, path):
@@ -128,7 +135,8 @@ class RowEdits:
         """An argument: its kind is seen from its form."""
         kind = head_of(term).partition(".")[0]
         if term[0] == "str":
-            yield from self.of_class(term, path) if head in ("next", "not_next", "these") else self.of_word(term, path)
+            is_class = head in ("next", "not_next", "these")
+            yield from self.of_class(term, path) if is_class else self.of_word(term, path)
         elif term[0] == "num":
             number = term[1]
             for new in ({10: 36, 36: 10}[number],) if head == "Eat.numeral" else (number - 1, number + 1):
@@ -158,6 +166,9 @@ class RowEdits:
 
     def of_data(self, term, path):
         head, args = head_of(term), arguments(term)
+        if head == "Eat.identifier":
+            for other in ("clone", "resource", "any"):
+                yield "class of bytes", path, app("Eat.run", name("Class." + other)), ""
         if head in NEGATED:
             yield "condition negated", path, app(NEGATED[head], *args) if args else name(NEGATED[head]), ""
         for i, part in enumerate(args):

@@ -1,7 +1,7 @@
-"""The types of the syntax tree: a tree's text, as expected readings tell it, and the tree as plain data, one from the other.
+"""The types of the syntax tree: a tree's text, as expected readings tell it, and the tree as plain data (core.py).
 
-`Name(fields)` is a struct, `Name = Variant(fields) | ..` an enum. A field is a type, `?T` an optional one, `*T` a list,
-`number`, `flag`, `place` (two indexes), `N` and `U` (a component of that list), `width` (the component that is a width).
+`Name(fields)` is a struct, `Name = Variant(fields) | ..` an enum. A field is a type, `?T` an optional one, `*T` a list
+of them, `number`, `flag`, `place` (two indexes), `N` and `U` (a component of that list), `width` (that is a component).
 """
 import re
 
@@ -74,7 +74,8 @@ VectorType = DimensionNumber(number, TypeHandle) | DimensionExpression(Expressio
 TemplateArg = TypeArg(TypeHandle) | Expression(Expression) | SimpleExpression(ExprPrimary) | ArgPack(*TemplateArg)
 UnresolvedName = Name(BaseUnresolvedName) | Global(BaseUnresolvedName)
   | Nested1(UnresolvedTypeHandle, *UnresolvedQualifierLevel, BaseUnresolvedName)
-  | Nested2(*UnresolvedQualifierLevel, BaseUnresolvedName) | GlobalNested2(*UnresolvedQualifierLevel, BaseUnresolvedName)
+  | Nested2(*UnresolvedQualifierLevel, BaseUnresolvedName)
+  | GlobalNested2(*UnresolvedQualifierLevel, BaseUnresolvedName)
 BaseUnresolvedName = Name(SimpleId) | Operator(OperatorName, ?TemplateArgs) | Destructor(DestructorName)
 DestructorName = Unresolved(UnresolvedTypeHandle) | Name(SimpleId)
 ExprPrimary = Literal(TypeHandle, place) | External(MangledName)

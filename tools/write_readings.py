@@ -3,9 +3,10 @@
 
     tools/write_readings.py
 
-From tools/readings (by-hand.jsonl, rows.jsonl.xz, first-idle.json) it makes the modules ByHand, ReadRows1 and so on, and Firsts in
-crates/demangle_grammar/proofs, and names them in Lib.antt there. A case of tools/readings/first-idle.json has the bytes with which
-a row can begin, how deep it goes where the next byte is another, and whether it can be empty.
+From by-hand.jsonl, rows.jsonl.xz (cases.py) and first-idle.json in tools/readings it makes the modules ByHand,
+ReadRows1 and so on, and Firsts in crates/demangle_grammar/proofs, and names them in Lib.antt there. first-idle.json has
+for each row the bytes with which it can begin, how deep it goes where the next byte is another, and whether it can be
+empty.
 """
 import json
 import os
@@ -24,13 +25,15 @@ USES = {
     "Rattle.std.proofs.Common": ["refl"],
     "Rattle.demangle_text.specs.Kind": ["End", "Text", "Bad", "Over"],
     "Rattle.demangle_text.specs.Characters": ["sequence_len"],
-    "Rattle.demangle_core.specs.Core": ["Tag", "N", "U", "end", "node", "place", "number", "flag", "chosen", "ref", "mark"],
+    "Rattle.demangle_core.specs.Core": [
+        "Tag", "N", "U", "end", "node", "place", "number", "flag", "chosen", "ref", "mark"],
     "Rattle.demangle_core.specs.Table": ["entry_at"],
     "Rattle.demangle_grammar.specs.Rule": ["Row"],
     "Rattle.demangle_grammar.specs.Rows": ["rule", "global", "operators"],
     "Rattle.demangle_grammar.specs.Reading": ["run_rule", "measure_from"],
     "Rattle.demangle_grammar.specs.First": ["takes_in", "first_in", "idle_in"],
-    "Rattle.demangle_grammar.proofs.Conforms": ["Read", "Refused", "Reads", "by_measure", "entry", "Begins", "PartBegins"],
+    "Rattle.demangle_grammar.proofs.Conforms": [
+        "Read", "Refused", "Reads", "by_measure", "entry", "Begins", "PartBegins"],
 }
 # parts of a row in the listing of first bytes
 PARTS = {
@@ -84,9 +87,9 @@ def outcome_of(case):
 
 
 def reading_of(name, case):
-    conversion = str(case.conversion).lower()
+    reader = "%s %s %s" % (case.row, str(case.conversion).lower(), bytes_of(case.data))
     more = "" if case.data.isascii() else " sequence_len"
-    return ["", "%s : Reads %s %s %s %s %d" % (name, case.row, conversion, bytes_of(case.data), outcome_of(case), case.reach),
+    return ["", "%s : Reads %s %s %d" % (name, reader, outcome_of(case), case.reach),
             "unfolding measure_from run_rule rule entry_at" + more, "%s = by_measure refl" % name]
 
 
@@ -131,15 +134,17 @@ def ranges_of(present):
 
 
 def begins_of(name, told):
-    first, idle = ranges_of({ord(c) for c in told["first"]}), told["idle"]
+    row, begins = snake(name), "%s %d" % (ranges_of({ord(c) for c in told["first"]}), told["idle"])
+    part = PARTS.get(name)
+    if part:
+        name, fields = row[4:] + "_part", ("first", "idle")
+        statement = "PartBegins %s %s" % (part, begins)
+    else:
+        name, fields = row[4:], ("takes", "first", "idle")
+        statement = "Begins %s %s %s" % (row, str(not told["can be empty"]).lower(), begins)
+    proof = "; ".join(field + " = refl" for field in fields)
     unfolding = "unfolding rule takes_in first_in idle_in"
-    row = snake(name)
-    if name in PARTS:
-        part = row[4:] + "_part"
-        return ["", "%s : PartBegins %s %s %d" % (part, PARTS[name], first, idle), unfolding, "%s = record { first = refl; idle = refl }" % part]
-    takes = str(not told["can be empty"]).lower()
-    return ["", "%s : Begins %s %s %s %d" % (row[4:], row, takes, first, idle), unfolding,
-            "%s = record { takes = refl; first = refl; idle = refl }" % row[4:]]
+    return ["", "%s : %s" % (name, statement), unfolding, "%s = record { %s }" % (name, proof)]
 
 
 def write_firsts():
@@ -150,7 +155,7 @@ def write_firsts():
 
 
 def main():
-    old = [file for file in os.listdir(FOLDER) if re.fullmatch(r"Read(Rows|Names)\d+\.antt", file)]
+    old = [file for file in os.listdir(FOLDER) if re.fullmatch(r"ReadRows\d+\.antt", file)]
     for file in old:
         os.remove(os.path.join(FOLDER, file))
     stems = write_rows()
@@ -158,7 +163,7 @@ def main():
     write_firsts()
     library = os.path.join(FOLDER, "Lib.antt")
     with open(library) as file:
-        modules = [line for line in file.read().split("\n") if line and not re.fullmatch(r"pub mod Read(Rows|Names)\d+", line)]
+        modules = [line for line in file.read().split("\n") if line and not re.fullmatch(r"pub mod ReadRows\d+", line)]
     at = modules.index("pub mod Firsts") + 1
     modules[at:at] = ["pub mod " + stem for stem in stems]
     with open(library, "w") as file:
