@@ -1,7 +1,7 @@
 //! Identifiers in UTF-8.
 
 ghost use Rattle.std.specs.Prelude.{◌≡◌, ◌≤◌, length};
-ghost use Rattle.demangle_text.specs.Characters.{is_identifier_byte, sequence_len, char_len, identifier_len};
+ghost use Rattle.demangle_text.specs.Characters.{is_identifier_byte, sequence_len, char_len, identifier_len, AreIdentifierChars};
 
 /// Whether an ASCII byte is a character of an identifier.
 fn is_identifier_byte(byte: u8) -> bool
@@ -56,4 +56,12 @@ pub fn identifier_len(bytes: &[u8]) -> usize
         count += len;
     }
     count
+}
+
+/// The bytes of an identifier as text. They aren't looked at again: their characters are UTF-8.
+pub fn identifier_str(bytes: &[u8]) -> &str
+    requires { AreIdentifierChars bytes.now }
+    ensures { result.now ≡ bytes.now }
+{
+    unsafe { str::from_utf8_unchecked(bytes) }
 }
