@@ -1,5 +1,5 @@
 -- Laws on the parts of a plain function's name, in the words of the code that reads them.
-use Rattle.std.proofs.Common.{cond, IsTrue, ◌↔◌, zero, suc, append_assoc, append-nil, codes, ◌≡◌, ℕ, ◌+◌, ◌-◌, ◌<◌, ◌≤◌, Bool, true, false, eqb, nat_lt, ◌&&◌, List, [], ◌∷◌, ◌++◌, length, drop, refl, sym, ap, ◌∙◌, arith, rules, tests, Ok, Err, Result, Some, None}
+use Rattle.std.proofs.Common.{cond, IsTrue, ◌↔◌, append_assoc, append-nil, codes, ◌≡◌, ℕ, ◌+◌, ◌-◌, ◌<◌, ◌≤◌, Bool, true, false, eqb, nat_lt, List, [], ◌∷◌, ◌++◌, length, drop, refl, sym, ap, ◌∙◌, arith, rules, tests, Ok, Err, Result, Some, None}
 use Rattle.std.specs.Prelude.{Option}
 use Rattle.demangle_text.specs.Kind.{Kind}
 use Rattle.demangle_text.specs.Spot.{Spot, skip}
