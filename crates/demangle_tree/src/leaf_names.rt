@@ -7,9 +7,31 @@ ghost use Rattle.demangle_core.specs.Core.{Core};
 ghost use Rattle.demangle_core.specs.Lookups.{else_next, leaf_name, leaf_step};
 ghost use Rattle.demangle_tree.specs.Steps.{next_of};
 ghost use Rattle.demangle_table.specs.TableOf.{table_of};
-ghost use Rattle.demangle_leaf_nodes.specs.TreeLeaves.{tree_of_leaf_name, tree_of_well_known_component, tree_of_nested_name, tree_of_prefix_handle, tree_of_template_template_param_handle, tree_of_type_handle, tree_of_unqualified_name, tree_of_unresolved_type_handle, tree_of_unscoped_name, tree_of_unscoped_template_name, tree_of_unscoped_template_name_handle, tree_of_non_substitution, tree_of_builtin_type, tree_of_qualified_builtin, tree_of_closure_type_name, tree_of_data_member_prefix};
+ghost use Rattle.demangle_leaf_nodes.specs.TreeLeaves.{
+  tree_of_builtin_type,
+  tree_of_closure_type_name,
+  tree_of_data_member_prefix,
+  tree_of_leaf_name,
+  tree_of_nested_name,
+  tree_of_non_substitution,
+  tree_of_prefix_handle,
+  tree_of_qualified_builtin,
+  tree_of_template_template_param_handle,
+  tree_of_type_handle,
+  tree_of_unqualified_name,
+  tree_of_unresolved_type_handle,
+  tree_of_unscoped_name,
+  tree_of_unscoped_template_name,
+  tree_of_unscoped_template_name_handle,
+  tree_of_well_known_component,
+};
 ghost use Rattle.demangle_nodes.specs.TreeNodes.{tree_of_name, tree_of_local_name};
-ghost use Rattle.demangle_entries.specs.TreeEntries.{tree_of_prefix, tree_of_class_enum_type, tree_of_type_node, tree_of_substitutable};
+ghost use Rattle.demangle_entries.specs.TreeEntries.{
+  tree_of_class_enum_type,
+  tree_of_prefix,
+  tree_of_substitutable,
+  tree_of_type_node,
+};
 
 use crate::steps::{LookUp, Step, follow};
 use demangle_entries::{
@@ -40,7 +62,9 @@ fn leaf_of_prefix_handle<'a>(node: &'a PrefixHandle) -> Step<LeafName<'a>>
     }
 }
 
-fn leaf_of_unscoped_template_name_handle<'a>(node: &'a UnscopedTemplateNameHandle) -> Step<LeafName<'a>>
+fn leaf_of_unscoped_template_name_handle<'a>(
+    node: &'a UnscopedTemplateNameHandle,
+) -> Step<LeafName<'a>>
     ensures { next_of tree_of_leaf_name result ≡ leaf_step (tree_of_unscoped_template_name_handle node.now) }
 {
     match node {
@@ -50,7 +74,9 @@ fn leaf_of_unscoped_template_name_handle<'a>(node: &'a UnscopedTemplateNameHandl
     }
 }
 
-fn leaf_of_template_template_param_handle<'a>(node: &'a TemplateTemplateParamHandle) -> Step<LeafName<'a>>
+fn leaf_of_template_template_param_handle<'a>(
+    node: &'a TemplateTemplateParamHandle,
+) -> Step<LeafName<'a>>
     ensures { next_of tree_of_leaf_name result ≡ leaf_step (tree_of_template_template_param_handle node.now) }
 {
     match node {
@@ -85,9 +111,7 @@ fn leaf_of_unqualified_name<'a>(node: &'a UnqualifiedName) -> Step<LeafName<'a>>
 {
     match node {
         UnqualifiedName::Source(name, _) => Step::Answer(LeafName::SourceName(name)),
-        UnqualifiedName::LocalSourceName(name, _, _) => Step::Answer(LeafName::SourceName(
-            name,
-        )),
+        UnqualifiedName::LocalSourceName(name, _, _) => Step::Answer(LeafName::SourceName(name)),
         UnqualifiedName::UnnamedType(name, _) => Step::Answer(LeafName::UnnamedType(name)),
         UnqualifiedName::ClosureType(name, _) => Step::Answer(LeafName::Closure(name)),
         UnqualifiedName::Operator(_, _) => Step::Nothing,
@@ -145,7 +169,8 @@ fn leaf_of_data_member_prefix<'a>(node: &'a DataMemberPrefix) -> Step<LeafName<'
 }
 
 fn leaf_or_prefix<'a>(name: &'a UnqualifiedName, prefix: &'a PrefixHandle) -> Step<LeafName<'a>>
-    ensures { next_of tree_of_leaf_name result ≡ else_next (leaf_step (tree_of_unqualified_name name.now)) (leaf_step (tree_of_prefix_handle prefix.now)) }
+    ensures { next_of tree_of_leaf_name result
+        ≡ else_next (leaf_step (tree_of_unqualified_name name.now)) (leaf_step (tree_of_prefix_handle prefix.now)) }
 {
     match leaf_of_unqualified_name(name) {
         Step::Nothing => leaf_of_prefix_handle(prefix),
@@ -253,8 +278,8 @@ impl<'a> LookUp<'a> for LeafNames {
     }
 }
 
-/// The leaf name of a name or a type: the last identifier of it, which its constructors and destructors bear. The original's
-/// trait of this name.
+/// The leaf name of a name or a type: the last identifier of it, which its constructors and destructors bear. The
+/// original's trait of this name.
 pub trait GetLeafName<'a> {
     /// The tree of what is looked at.
     ghost tree: { Self → Core };

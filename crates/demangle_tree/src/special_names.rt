@@ -5,7 +5,12 @@ ghost use Rattle.demangle_core.specs.Core.{Core};
 ghost use Rattle.demangle_core.specs.Lookups.{is_special, special_step};
 ghost use Rattle.demangle_tree.specs.Steps.{next_of, tree_of_special};
 ghost use Rattle.demangle_table.specs.TableOf.{table_of};
-ghost use Rattle.demangle_leaf_nodes.specs.TreeLeaves.{tree_of_nested_name, tree_of_prefix_handle, tree_of_unqualified_name, tree_of_unscoped_name};
+ghost use Rattle.demangle_leaf_nodes.specs.TreeLeaves.{
+  tree_of_nested_name,
+  tree_of_prefix_handle,
+  tree_of_unqualified_name,
+  tree_of_unscoped_name,
+};
 ghost use Rattle.demangle_nodes.specs.TreeNodes.{tree_of_name};
 ghost use Rattle.demangle_entries.specs.TreeEntries.{tree_of_prefix, tree_of_substitutable};
 

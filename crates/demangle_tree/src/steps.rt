@@ -1,9 +1,8 @@
 //! One step of a look-up, and the loop that goes from step to step.
 
-ghost use Rattle.std.specs.Prelude.{◌≡◌, ◌+◌, option_map};
-ghost use Rattle.demangle_core.specs.Core.{Core, N, U};
-ghost use Rattle.demangle_core.specs.Table.{size};
-ghost use Rattle.demangle_core.specs.Lookups.{Next, after, answer_of, refers, resolve};
+ghost use Rattle.std.specs.Prelude.{◌≡◌, option_map};
+ghost use Rattle.demangle_core.specs.Core.{Core};
+ghost use Rattle.demangle_core.specs.Lookups.{Next, after, answer_of, refers, settled};
 ghost use Rattle.demangle_entries.specs.TreeEntries.{tree_of_substitutable};
 ghost use Rattle.demangle_table.specs.TableOf.{table_of};
 ghost use Rattle.demangle_tree.specs.Steps.{next_of};
@@ -11,7 +10,8 @@ ghost use Rattle.demangle_tree.specs.Steps.{next_of};
 use demangle_entries::Substitutable;
 use demangle_table::SubstitutionTable;
 
-/// Where a look-up comes to in one node: to its answer, to an end without one, or to a component that has the same answer.
+/// Where a look-up comes to in one node: to its answer, to an end without one, or to a component, whose answer is the
+/// answer.
 #[derive(Clone, Copy)]
 pub(crate) enum Step<A> {
     Answer(A),
@@ -77,7 +77,7 @@ pub(crate) fn follow<'a, L: LookUp<'a>>(
     first: Step<L::Answer>,
     subs: &'a SubstitutionTable,
 ) -> Option<L::Answer>
-    ensures { option_map L.tree result ≡ resolve L.step (size N (table_of subs.now) + size U (table_of subs.now)) (table_of subs.now) (next_of L.tree first) }
+    ensures { option_map L.tree result ≡ settled L.step (table_of subs.now) (next_of L.tree first) }
 {
     let mut step = first;
     let mut more = subs.entry_count();
