@@ -33,3 +33,4 @@ pub mod ReadNames2
 pub mod ByHand
 pub mod Expands
 pub mod SayTheSame
+pub mod Stands

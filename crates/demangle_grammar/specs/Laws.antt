@@ -9,7 +9,7 @@ use Rattle.demangle_core.specs.Sound.{RefersTo, ReferBack, RefsSound}
 use Rattle.demangle_grammar.specs.Rows.{rule}
 use Rattle.demangle_grammar.specs.Reading.{State, Answer, Yes, No, Deep, read_from, read_all, levels_of}
 use Rattle.demangle_grammar.specs.Fits.{Fits}
-use Rattle.demangle_grammar.specs.Sound.{IsSoundFor, IsComponent, EachEntry}
+use Rattle.demangle_grammar.specs.Sound.{IsSoundFor, IsSoundTable, StandsAt, IsComponent, EachEntry}
 use Rattle.demangle_grammar.specs.Expand.{IsExpanded, expand_upto, expand}
 use Rattle.demangle_grammar.specs.Expand as expanded
 use Rattle.demangle_grammar.specs.First.{takes_row, first, idle, Misses}
@@ -45,6 +45,13 @@ IsSound = (left : ℕ) (row : Row) (conv : Bool) (s t : State) (tree : Tree) →
 abbrev pub RefersBack : Type 0
 RefersBack = (left : ℕ) (row : Row) (conv : Bool) (s t : State) (tree : Tree) → Reads left row conv s t tree → ReferBack [] s.entries →
     ReferBack [] t.entries × RefersTo t.entries (core tree)
+
+-- Read in an input, from entries that are sound for it, the core is sound for it, and so are the entries behind the reading: each
+-- place lies in the input and holds bytes that its row reads, each function type has a result, and each entry is of its kind.
+-- What is left may end before the input does, as within a name of so many bytes.
+abbrev pub ReadsSound : Type 0
+ReadsSound = (input : List ℕ) (left : ℕ) (row : Row) (conv : Bool) (s t : State) (tree : Tree) → Reads left row conv s t tree → StandsAt input s.at s.rest →
+    IsSoundTable input s.entries → IsSoundFor input t.entries (core tree)
 
 -- What is sound for an input is sound in its references.
 abbrev pub SoundRefers : Type 0
@@ -153,6 +160,11 @@ Finds left row conv h parts x m = cread left row conv h parts ≡ Found x m
 -- A cut back to the lengths before the reading gives the old entries back.
 abbrev pub GivesBack : Type 0
 GivesBack = (left : ℕ) (row : Row) (conv : Bool) (h m : Here) (parts : List Core) (x : Core) → Finds left row conv h parts x m → cut (sizes h.table) m.table ≡ h.table
+
+-- What is found in an input, from a table that is sound for it, is sound for it.
+abbrev pub FindsSound : Type 0
+FindsSound = (input : List ℕ) (left : ℕ) (row : Row) (conv : Bool) (h m : Here) (x : Core) → Finds left row conv h [] x m → StandsAt input h.spot.index h.spot.left →
+    IsSoundTable input h.table → IsSoundFor input m.table x
 
 -- A row that has no empty spelling takes a byte.
 abbrev pub TakesByte : Type 0
