@@ -34,3 +34,6 @@ pub mod ByHand
 pub mod Expands
 pub mod SayTheSame
 pub mod Stands
+pub mod Fields
+pub mod Shapes
+pub mod PartsKnown
