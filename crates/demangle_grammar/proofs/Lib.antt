@@ -37,3 +37,5 @@ pub mod Stands
 pub mod Fields
 pub mod Shapes
 pub mod PartsKnown
+pub mod Sounds
+pub mod SoundFor
