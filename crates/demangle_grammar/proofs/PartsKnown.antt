@@ -6,12 +6,16 @@ use Rattle.demangle_core.specs.Core.{Core, end, node, place, ◌⊕◌, Tag}
 use Rattle.demangle_grammar.specs.Rule.{Class, Eat, Make}
 use Rattle.demangle_grammar.specs.Tree.{index_of, data_member_of, longer_by, reshaped}
 use Rattle.demangle_grammar.specs.Fits.{AllOf, IsOne}
-use Rattle.demangle_grammar.specs.Sound.{bytes_of, AreOf, HasPlaces, HasResult, HasResults, IsSomeRow, is_substitutable}
+use Rattle.demangle_grammar.specs.Sound.{bytes_of, AreOf, HasPlaces, HasResult, HasResults, IsSomeRow, is_substitutable, HasHandles}
 use Rattle.demangle_grammar.proofs.Truth.{both_true, either}
 use Rattle.demangle_grammar.proofs.Kept.{append-nil}
 use Rattle.demangle_grammar.proofs.Stands.{Stand, stand_front, stand_both, stand_within, stand_bytes}
-use Rattle.demangle_grammar.proofs.Fields.{Places, no_place, IsNode, Fields, IsEntry, fields_both, fields_so, fields_free, place_of, fields_places, fields_results, places_free, index_fields, data_member_fields, some_front, some_behind, index_some, data_member_some}
+use Rattle.demangle_grammar.proofs.Fields.{Places, no_place, node_around, Fields, IsEntry, fields_both, fields_so, fields_free, place_of, fields_places, fields_results, fields_handles, places_free, index_fields, data_member_fields, some_front, some_behind, index_some, data_member_some}
 use Rattle.demangle_grammar.proofs.Shapes.{Known, is_plain, is_full, is_none, wide, some_if, tells, same_bytes, is_tail, holds_place, may_hold, is_signature, has_result, makes, reads_word, marks_one, put_behind}
+
+not_so : (b : Bool) → not b ≡ true → b ≡ false
+not_so true e = absurd (cc)
+not_so false e = refl
 
 pub no : {A : Type 0} → false ≡ true → A
 no e = absurd (cc)
@@ -105,11 +109,15 @@ module _ (input : List ℕ) where
   Alone true c = (i : ℕ) × (j : ℕ) × (c ≡ place i j end)
   Alone false c = Unit {0}
 
+  -- the fields of a node, which may be of a component's kind
+  abbrev pub Holds : Tag → Core → Type 0
+  Holds t c = HasPlaces input t c × HasResult t c × HasResults c × HasHandles c
+
   abbrev pub Is : ℕ → Known → Core → Type 0
   Is p Known.empty c = c ≡ end
   Is p Known.any c = Fields input no_place c
   Is p Known.some c = Fields input no_place c × IsSomeRow c
-  Is p (Known.one t filled) c = (x : Core) × (c ≡ node t x end) × IsNode input t x × Filled filled x
+  Is p (Known.one t filled) c = (x : Core) × (c ≡ node t x end) × Holds t x × Filled filled x
   Is p (Known.placed alone x tail) c = Fields input (Placed x tail p) c × Alone alone c
   Is p (Known.longer x tail) c = Fields input (Longer x tail) c
 
@@ -117,7 +125,8 @@ module _ (input : List ℕ) where
   plain_fields p Known.empty c e h = subst (Fields input no_place) (sym h) tt
   plain_fields p Known.any c e h = h
   plain_fields p Known.some c e h = h.0
-  plain_fields p (Known.one t filled) c e h = subst (Fields input no_place) (sym h.1) (h.2, tt)
+  plain_fields p (Known.one t filled) c e h =
+      subst (Fields input no_place) (sym h.1) ((h.2.0, h.2.1, h.2.2, node_around t (not_so (is_substitutable t) e) h.0 h.2.3), tt)
   plain_fields p (Known.placed alone x tail) c e h = no e
   plain_fields p (Known.longer x tail) c e h = no e
 
@@ -129,13 +138,13 @@ module _ (input : List ℕ) where
   full_some p (Known.placed alone x tail) c e h = no e
   full_some p (Known.longer x tail) c e h = no e
 
-  pub wide_is : (p : ℕ) (q : Known) (c : Core) → Is p q c → Is p (wide q) c
-  wide_is p Known.empty c h = plain_fields p Known.empty c refl h
-  wide_is p Known.any c h = h
-  wide_is p Known.some c h = h
-  wide_is p (Known.one t filled) c h = (plain_fields p (Known.one t filled) c refl h, full_some p (Known.one t filled) c refl h)
-  wide_is p (Known.placed alone x tail) c h = h
-  wide_is p (Known.longer x tail) c h = h
+  pub wide_is : (p : ℕ) (q : Known) (c : Core) → is_plain q ≡ true → Is p q c → Is p (wide q) c
+  wide_is p Known.empty c e h = plain_fields p Known.empty c e h
+  wide_is p Known.any c e h = h
+  wide_is p Known.some c e h = h
+  wide_is p (Known.one t filled) c e h = (plain_fields p (Known.one t filled) c e h, full_some p (Known.one t filled) c refl h)
+  wide_is p (Known.placed alone x tail) c e h = no e
+  wide_is p (Known.longer x tail) c e h = no e
 
   pub moved_is : (p k : ℕ) (q : Known) (c : Core) → is_plain q ≡ true → Is p q c → Is k q c
   moved_is p k Known.empty c e h = h
@@ -178,7 +187,15 @@ module _ (input : List ℕ) where
   node_places p t Known.empty c e h = places_free input t c (plain_fields p Known.empty c refl h)
   node_places p t Known.any c e h = places_free input t c h
   node_places p t Known.some c e h = places_free input t c h.0
-  node_places p t (Known.one u filled) c e h = places_free input t c (plain_fields p (Known.one u filled) c refl h)
+  node_places p t (Known.one u filled) c e h = places_free input t c (plain_fields p (Known.one u filled) c e h)
+
+  node_handles : (p : ℕ) (t : Tag) (q : Known) (c : Core) → may_hold t q ≡ true → Is p q c → HasHandles c
+  node_handles p t (Known.placed alone x tail) c e h = fields_handles input (Placed x tail p) c h.0
+  node_handles p t (Known.longer x tail) c e h = fields_handles input (Longer x tail) c h
+  node_handles p t Known.empty c e h = fields_handles input no_place c (plain_fields p Known.empty c e h)
+  node_handles p t Known.any c e h = fields_handles input no_place c h
+  node_handles p t Known.some c e h = fields_handles input no_place c h.0
+  node_handles p t (Known.one u filled) c e h = fields_handles input no_place c (plain_fields p (Known.one u filled) c e h)
 
   node_result : (p : ℕ) (t : Tag) (q : Known) (c : Core) → has_result (is_signature t) q ≡ true → Is p q c → HasResult t c
   node_result p t q c e h = by (is_signature t) refl e
@@ -202,7 +219,7 @@ module _ (input : List ℕ) where
   node_results p Known.empty c h = fields_results input no_place c (plain_fields p Known.empty c refl h)
   node_results p Known.any c h = fields_results input no_place c h
   node_results p Known.some c h = fields_results input no_place c h.0
-  node_results p (Known.one u filled) c h = fields_results input no_place c (plain_fields p (Known.one u filled) c refl h)
+  node_results p (Known.one u filled) c h = subst HasResults (sym h.1) ((h.2.1, h.2.2), tt)
 
   node_filled : (p : ℕ) (q : Known) (c : Core) (z : Bool) → is_full q ≡ z → Is p q c → Filled z c
   node_filled p q c true e h = full_some p q c e h
@@ -213,7 +230,7 @@ module _ (input : List ℕ) where
   data_member_is p Known.any c e h = data_member_fields input c h
   data_member_is p Known.some c e h = (data_member_fields input c h.0, data_member_some c h.1)
   data_member_is p (Known.one t filled) c e h =
-      (data_member_fields input c (plain_fields p (Known.one t filled) c refl h), data_member_some c (full_some p (Known.one t filled) c refl h))
+      (data_member_fields input c (plain_fields p (Known.one t filled) c e h), data_member_some c (full_some p (Known.one t filled) c refl h))
   data_member_is p (Known.placed alone x tail) c e h = no e
   data_member_is p (Known.longer x tail) c e h = no e
 
@@ -237,7 +254,7 @@ module _ (input : List ℕ) where
   makes_is (Make.one t) p q go c e h =
       let es = both_true (may_hold t q) (has_result (is_signature t) q && go (Known.one t (is_full q))) e in
       let fs = both_true (has_result (is_signature t) q) (go (Known.one t (is_full q))) es.1 in
-      (Known.one t (is_full q), fs.1, (c, refl, (node_places p t q c es.0 h, node_result p t q c fs.0 h, node_results p q c h), node_filled p q c (is_full q) refl h))
+      (Known.one t (is_full q), fs.1, (c, refl, (node_places p t q c es.0 h, node_result p t q c fs.0 h, node_results p q c h, node_handles p t q c es.0 h), node_filled p q c (is_full q) refl h))
   makes_is Make.dropped p q go c e h = (Known.empty, e, refl)
   makes_is Make.index p q go c e h = (Known.some, e, (index_fields input c, index_some c))
   makes_is (Make.longer k) p q go c e h = longer_is k p q go c e h
@@ -255,7 +272,7 @@ module _ (input : List ℕ) where
   pub marks_is : (p : ℕ) (q : Known) (go : Known → Bool) (c : Core) → marks_one q go ≡ true → Is p q c → (go Known.some ≡ true) × IsEntry input c
   marks_is p (Known.one t filled) go c e h =
       let es = both_true (is_substitutable t) (go Known.some) e in
-      (es.1, subst (IsEntry input) (sym h.1) (es.0, (h.2, tt)))
+      (es.1, subst (IsEntry input) (sym h.1) (es.0, h.2.0, h.2.1, h.2.2, h.2.3))
   marks_is p Known.empty go c e h = no e
   marks_is p Known.any go c e h = no e
   marks_is p Known.some go c e h = no e

@@ -8,7 +8,7 @@ use Rattle.demangle_grammar.specs.Rows.{rule}
 use Rattle.demangle_grammar.specs.Sound.{is_substitutable}
 
 -- The parts are none; some or none; one at least; or just a node of this type, of which it is known whether it has a field.
--- In each of these no place is a part. Or one is: the place of such bytes, the only part or not, with these bytes read behind it;
+-- In each of these no place is a part, and no node of a component's kind but that one. Or one is: the place of such bytes, the only part or not, with these bytes read behind it;
 -- or the place of such bytes and these.
 pub data Known : Type 0 where
   empty any some : Known
@@ -16,8 +16,9 @@ pub data Known : Type 0 where
   placed : (alone : Bool) → Eat → List ℕ → Known
   longer : Eat → List ℕ → Known
 
--- no place is a part
+-- no place is a part, nor a node of a component's kind
 abbrev pub is_plain : Known → Bool
+is_plain (Known.one t filled) = not (is_substitutable t)
 is_plain (Known.placed alone x tail) = false
 is_plain (Known.longer x tail) = false
 is_plain _ = true
@@ -69,7 +70,7 @@ holds_place _ _ _ = false
 abbrev pub may_hold : Tag → Known → Bool
 may_hold t (Known.placed alone x tail) = holds_place t x []
 may_hold t (Known.longer x tail) = holds_place t x tail
-may_hold t _ = true
+may_hold t q = is_plain q
 
 abbrev pub is_signature : Tag → Bool
 is_signature Tag.BareFunctionType = true
@@ -137,7 +138,7 @@ leads Rule.done q go = go q
 leads (Rule.leaf l k) q go = behind_leaf l q (λ p. leads k p go)
 leads (Rule.call on r k) q go = is_plain q && leads k (some_if (not (is_turn r)) q) go
 leads (Rule.loop r k) q go = (is_row q && is_turn r) && leads k Known.some go
-leads (Rule.star x k) q go = leads x (wide q) (λ p. tells p (wide q)) && leads k (wide q) go
+leads (Rule.star x k) q go = is_plain q && (leads x (wide q) (λ p. tells p (wide q)) && leads k (wide q) go)
 leads (Rule.alt x y k) q go = leads x q (λ p. leads k p go) && leads y q (λ p. leads k p go)
 leads (Rule.commit k) q go = leads k q go
 leads (Rule.block x k) q go = is_plain q && (leads x Known.empty is_row && leads k Known.some go)

@@ -1,5 +1,5 @@
 -- The laws on what is sound for an input.
-use Rattle.std.specs.Prelude.{◌≡◌, ℕ, List, [], ◌∷◌}
+use Rattle.std.specs.Prelude.{◌≡◌, ◌||◌, ℕ, List, [], ◌∷◌}
 use Rattle.std.proofs.Common.{refl, subst, ap, ◌∙◌}
 use Rattle.demangle_core.specs.Table.{Entry, Table}
 use Rattle.demangle_core.specs.Core.{Core, Tag}
@@ -15,11 +15,10 @@ use Rattle.demangle_grammar.proofs.Readings.{derived}
 use Rattle.demangle_grammar.proofs.Back.{refers_back}
 use Rattle.demangle_grammar.proofs.CodeLaws.{state_of, here_in, of_trees}
 use Rattle.demangle_grammar.proofs.Stands.{stand}
-use Rattle.demangle_grammar.proofs.Fields.{no_place, IsEntry, fields_in, places_free, fields_results}
+use Rattle.demangle_grammar.proofs.Fields.{no_place, IsEntry, entry_of, entry_is, places_free, fields_results, fields_handles}
 use Rattle.demangle_grammar.proofs.Shapes.{Known, is_plain, is_full, is_turn, ends_row, rows_lead}
 use Rattle.demangle_grammar.proofs.PartsKnown.{plain_fields}
 use Rattle.demangle_grammar.proofs.Sounds.{ends}
-use Rattle.std.specs.Prelude.{◌||◌}
 
 -- ---- entries
 each_so : (P Q : Core → Type 0) → ((c : Core) → P c → Q c) → (es : List Entry) → EachEntry P es → EachEntry Q es
@@ -28,21 +27,22 @@ each_so P Q f (x ∷ es) h = (f x.tree h.0, each_so P Q f es h.1)
 
 each_entry : (input : List ℕ) (es : List Entry) → EachEntry IsComponent es → EachEntry (HasPlaces input Tag.Several) es → EachEntry HasResults es → EachEntry (IsEntry input) es
 each_entry input [] k p r = tt
-each_entry input (x ∷ es) k p r = ((k.0, fields_in input Tag.Several (λ bs z. z) x.tree p.0 r.0), each_entry input es k.1 p.1 r.1)
+each_entry input (x ∷ es) k p r = (entry_of input x.tree k.0 p.0 r.0, each_entry input es k.1 p.1 r.1)
 
 -- ---- the laws
 pub reads_sound : ReadsSound
 reads_sound input left r c s t tree e at sound =
     let back = refers_back left r c s t tree e sound.refer_back in
-    let end = ends input (derived left r c s t tree e) Known.empty (ends_row r) (rows_lead r) (stand input s.at s.rest at) refl (each_entry input s.entries sound.kinds sound.places sound.results) in
+    let end = ends input (derived left r c s t tree e) Known.empty (ends_row r) (rows_lead r) (stand input s.at s.rest at) refl (each_entry input s.entries sound.components sound.places sound.results) in
     let plain = plain_fields input t.at end.0 (core tree) (both_true (is_plain end.0) (is_turn r || is_full end.0) end.1).0 end.2 in
     record {
       entries = record {
-        kinds = each_so (IsEntry input) IsComponent (λ x h. h.0) t.entries end.3;
+        components = each_so (IsEntry input) IsComponent (λ x h. (entry_is input x h).0) t.entries end.3;
         refer_back = back.0;
-        places = each_so (IsEntry input) (HasPlaces input Tag.Several) (λ x h. places_free input Tag.Several x h.1) t.entries end.3;
-        results = each_so (IsEntry input) HasResults (λ x h. fields_results input no_place x h.1) t.entries end.3;
+        places = each_so (IsEntry input) (HasPlaces input Tag.Several) (λ x h. (entry_is input x h).1) t.entries end.3;
+        results = each_so (IsEntry input) HasResults (λ x h. (entry_is input x h).2) t.entries end.3;
       };
+      handles = fields_handles input no_place (core tree) plain;
       refers = back.1;
       places = places_free input Tag.Several (core tree) plain;
       results = fields_results input no_place (core tree) plain;

@@ -22,7 +22,7 @@ use Rattle.demangle_grammar.proofs.Fit.{found_is, so_stands}
 use Rattle.demangle_grammar.proofs.Fit as fit
 use Rattle.demangle_grammar.proofs.Bridge.{plus_end}
 use Rattle.demangle_grammar.proofs.Stands.{Stand, stand_front, goes_on}
-use Rattle.demangle_grammar.proofs.Fields.{no_place, Fields, IsEntry, fields_both, fields_free, taken_fields, reference_fields, template_name_fields, template_entry_fields, entry_fields, taken_some, reference_some}
+use Rattle.demangle_grammar.proofs.Fields.{no_place, Fields, IsEntry, fields_both, fields_free, taken_fields, reference_fields, template_name_fields, template_entry_is, taken_some, reference_some}
 use Rattle.demangle_grammar.proofs.Shapes.{Known, is_plain, is_full, is_none, is_turn, is_row, wide, some_if, tells, finds, makes, put_behind, marks_one, reads_word, behind_leaf, leads, ends_row, rows_lead, turns_lead}
 use Rattle.demangle_grammar.proofs.PartsKnown.{no, Placed, Alone, Is, plain_fields, full_some, wide_is, moved_is, tells_is, behind_is, put_is, makes_is, word_is, marks_is}
 
@@ -36,9 +36,9 @@ module _ (input : List ℕ) where
   given_fields : (g : Given) → Fields input no_place (given g) × IsSomeRow (given g)
   given_fields Given.set = (tt, tt)
   given_fields Given.unset = (tt, tt)
-  given_fields Given.missing = (((tt, tt, tt), tt), tt)
+  given_fields Given.missing = (((tt, tt, tt, (refl, tt, tt)), tt), tt)
   given_fields Given.nought = (tt, tt)
-  given_fields Given.empty = (((tt, tt, tt), tt), tt)
+  given_fields Given.empty = (((tt, tt, tt, (refl, tt, tt)), tt), tt)
 
   Some : Core → Type 0
   Some c = Fields input no_place c × IsSomeRow c
@@ -123,7 +123,7 @@ module _ (input : List ℕ) where
   step_is Leaf.mark_first s a q go e h i g =
       let es = both_true (is_plain q) (go Known.some) e in
       let f = plain_fields input s.at q (core a) es.0 i in
-      (Known.some, es.1, (template_name_fields input (count U s.entries) (core a) f, tt), each_last (IsEntry input) s.entries (record { which = U; tree = template_entry (core a) }) g (refl, template_entry_fields input (core a) f))
+      (Known.some, es.1, (template_name_fields input (count U s.entries) (core a) f, tt), each_last (IsEntry input) s.entries (record { which = U; tree = template_entry (core a) }) g (template_entry_is input (core a) f))
   step_is Leaf.refer s a q go e h i g =
       let k = component_of (core a) in
       so_stands (Ends go) (nat_lt k (count N s.entries)) Bad _ (λ z. (Known.some, e, (reference_fields input N k, reference_some N k), g))
@@ -131,7 +131,7 @@ module _ (input : List ℕ) where
       let es = both_true (is_plain q) (go Known.some) e in
       let x = prefix_entry (core a) s.entries in
       so_stands (Ends go) (is_nestable x) Text _ (λ z.
-      (Known.some, es.1, (taken_fields input x (core a) (entry_fields input x s.entries g (of_entry (core a) s.entries)) (plain_fields input s.at q (core a) es.0 i), taken_some x (core a)), g))
+      (Known.some, es.1, (taken_fields input x (core a) s.entries g (of_entry (core a) s.entries) (plain_fields input s.at q (core a) es.0 i), taken_some x (core a)), g))
   step_is Leaf.no_prefix s a q go e h i g = tt
 
   -- ---- rules
@@ -142,6 +142,14 @@ module _ (input : List ℕ) where
   wide_wide (Known.one t filled) = refl
   wide_wide (Known.placed alone x tail) = refl
   wide_wide (Known.longer x tail) = refl
+
+  wide_plain : (q : Known) → is_plain q ≡ true → is_plain (wide q) ≡ true
+  wide_plain Known.empty e = refl
+  wide_plain Known.any e = refl
+  wide_plain Known.some e = refl
+  wide_plain (Known.one t filled) e = refl
+  wide_plain (Known.placed alone x tail) e = e
+  wide_plain (Known.longer x tail) e = e
 
   -- of a row that was entered with no parts
   row_some : (z f : Bool) → (z || f) ≡ true → not z ≡ true → f ≡ true
@@ -177,13 +185,16 @@ module _ (input : List ℕ) where
       let row = ends d Known.some is_row (turn_leads r fs.1) h (tells_is input s.at q Known.some (core a) fs.0 i) g in
       ends rest Known.some go (λ j. fs.1 j && es.1 j) (goes_on input (keeps d) h) (tells_is input m.at row.0 Known.some (core b) row.1 row.2) row.3
   ends (Derives.no_more {x = x} {k = k} {s = s} {a = a} rest) q go e h i g =
-      let es = both_true (leads x (wide q) (λ p. tells p (wide q))) (leads k (wide q) go) e in
-      ends rest (wide q) go es.1 h (wide_is input s.at q (core a) i) g
+      let ps = both_true (is_plain q) (leads x (wide q) (λ p. tells p (wide q)) && leads k (wide q) go) e in
+      let es = both_true (leads x (wide q) (λ p. tells p (wide q))) (leads k (wide q) go) ps.1 in
+      ends rest (wide q) go es.1 h (wide_is input s.at q (core a) ps.0 i) g
   ends (Derives.one_more {x = x} {k = k} {s = s} {m = m} {a = a} {b = b} d rest) q go e h i g =
-      let es = both_true (leads x (wide q) (λ p. tells p (wide q))) (leads k (wide q) go) e in
-      let one = ends d (wide q) (λ p. tells p (wide q)) es.0 h (wide_is input s.at q (core a) i) g in
-      let again : leads (Rule.star x k) (wide q) go ≡ true =
-      subst (λ z. (leads x z (λ p. tells p z) && leads k z go) ≡ true) (sym (wide_wide q)) e in
+      let ps = both_true (is_plain q) (leads x (wide q) (λ p. tells p (wide q)) && leads k (wide q) go) e in
+      let es = both_true (leads x (wide q) (λ p. tells p (wide q))) (leads k (wide q) go) ps.1 in
+      let one = ends d (wide q) (λ p. tells p (wide q)) es.0 h (wide_is input s.at q (core a) ps.0 i) g in
+      let both : (leads x (wide (wide q)) (λ p. tells p (wide (wide q))) && leads k (wide (wide q)) go) ≡ true =
+      subst (λ z. (leads x z (λ p. tells p z) && leads k z go) ≡ true) (sym (wide_wide q)) ps.1 in
+      let again : leads (Rule.star x k) (wide q) go ≡ true = λ j. wide_plain q ps.0 j && both j in
       ends rest (wide q) go again (goes_on input (keeps d) h) (tells_is input m.at one.0 (wide q) (core b) one.1 one.2) one.3
   ends (Derives.first {x = x} {y = y} {k = k} d rest) q go e h i g =
       let es = both_true (leads x q (λ p. leads k p go)) (leads y q (λ p. leads k p go)) e in

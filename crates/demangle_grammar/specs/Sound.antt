@@ -1,6 +1,6 @@
 -- Sound nodes and tables: what printing asks of a node, its table and the input.
 use Rattle.std.specs.Prelude.{◌⊎◌, ◌≡◌, ℕ, ◌≤◌, ◌+◌, ◌-◌, ◌==◌, List, [], ◌∷◌, ◌++◌, length, take, drop, not, codes, Bool, true, false}
-use Rattle.demangle_core.specs.Core.{Core, Tag, end, node, place, number, flag, chosen, ref, mark}
+use Rattle.demangle_core.specs.Core.{Core, Tag, end, node, place, number, flag, chosen, ref, mark, Which, N, U}
 use Rattle.demangle_core.specs.Table.{Entry, Table}
 use Rattle.demangle_grammar.specs.Rule.{Class}
 use Rattle.demangle_grammar.specs.Reading.{is_in}
@@ -69,9 +69,26 @@ is_substitutable Tag.SubstitutablePrefix = true
 is_substitutable Tag.SubstitutableExpression = true
 is_substitutable _ = false
 
--- an entry is one node, of such a kind
+-- the handle of a component in each list
+abbrev pub handle_of : Which → Tag
+handle_of N = Tag.BackReference
+handle_of U = Tag.NonSubstitution
+
+-- Each reference stands alone in the handle of its list, and no node of a component's kind stands in the tree.
+abbrev pub HasHandles : Core → Type 0
+HasHandles end = Unit {0}
+HasHandles (node t (ref w k m) n) = (t ≡ handle_of w) × (m ≡ end) × HasHandles n
+HasHandles (node t c n) = (is_substitutable t ≡ false) × HasHandles c × HasHandles n
+HasHandles (place i j n) = HasHandles n
+HasHandles (number v n) = HasHandles n
+HasHandles (flag b n) = HasHandles n
+HasHandles (chosen t k n) = HasHandles n
+HasHandles (ref w k n) = ⊥
+HasHandles (mark i n) = HasHandles n
+
+-- an entry is one node of a component's kind, which holds such a tree
 abbrev pub IsComponent : Core → Type 0
-IsComponent (node t c end) = is_substitutable t ≡ true
+IsComponent (node t c end) = (is_substitutable t ≡ true) × HasHandles c
 IsComponent _ = ⊥
 
 -- of each entry
@@ -82,15 +99,16 @@ EachEntry P (x ∷ xs) = P x.tree × EachEntry P xs
 -- A table is sound for an input where each entry is one node of a component's kind and refers to earlier entries alone, each
 -- place in it lies in the input and holds bytes that its row reads, and each function type has a result.
 pub record IsSoundTable (input : List ℕ) (table : Table) : Type 0 where
-  pub kinds : EachEntry IsComponent table
+  pub components : EachEntry IsComponent table
   pub refer_back : ReferBack [] table
   pub places : EachEntry (HasPlaces input Tag.Several) table
   pub results : EachEntry HasResults table
 
--- A node and a table are sound for an input where the table is, and the same holds of the node, whose references are to entries
--- that are there.
+-- A node and a table are sound for an input where the table is, and the same holds of the node, whose references stand in
+-- their handles and are to entries that are there.
 pub record IsSoundFor (input : List ℕ) (table : Table) (tree : Core) : Type 0 where
   pub entries : IsSoundTable input table
+  pub handles : HasHandles tree
   pub refers : RefersTo table tree
   pub places : HasPlaces input Tag.Several tree
   pub results : HasResults tree
