@@ -25,7 +25,7 @@ use Rattle.demangle_grammar.specs.Laws.{ReadsCode}
 use Rattle.demangle_grammar.proofs.Numbers.{NaturalAt, natural_fits, NumberAt, number_fits, WordAt, word_fits, starts_so}
 
 -- ---- rows of fields
-plus_end : (a : Core) → a ⊕ end ≡ a
+pub plus_end : (a : Core) → a ⊕ end ≡ a
 plus_end end = refl
 plus_end (node t c n) = ap (λ x. node t c x) (plus_end n)
 plus_end (place i j n) = ap (λ x. place i j x) (plus_end n)

@@ -156,7 +156,7 @@ no_entry : (es : List Entry) → IsOfEntry end es
 no_entry [] = refl
 no_entry (x ∷ es) = inr (no_entry es)
 
-of_entry : (c : Core) (es : List Entry) → IsOfEntry (prefix_entry c es) es
+pub of_entry : (c : Core) (es : List Entry) → IsOfEntry (prefix_entry c es) es
 of_entry c es = by (last_component c)
   where
     by : (x : Option (Which × ℕ)) → IsOfEntry (entry_of x es) es

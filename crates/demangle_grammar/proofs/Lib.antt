@@ -32,3 +32,10 @@ pub mod ReadNames1
 pub mod ReadNames2
 pub mod ByHand
 pub mod Expands
+pub mod SayTheSame
+pub mod Stands
+pub mod Fields
+pub mod Shapes
+pub mod PartsKnown
+pub mod Sounds
+pub mod SoundFor
