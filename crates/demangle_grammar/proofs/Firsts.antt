@@ -115,7 +115,7 @@ global_ctor_dtor : Begins Row.global_ctor_dtor true ((36, 36) ∷ (46, 46) ∷ (
 unfolding rule takes_in first_in idle_in
 global_ctor_dtor = record { takes = refl; first = refl; idle = refl }
 
-identifier : Begins Row.identifier true ((36, 36) ∷ (46, 46) ∷ (48, 57) ∷ (65, 90) ∷ (95, 95) ∷ (97, 122) ∷ []) 1
+identifier : Begins Row.identifier true ((36, 36) ∷ (46, 46) ∷ (48, 57) ∷ (65, 90) ∷ (95, 95) ∷ (97, 122) ∷ (194, 244) ∷ []) 1
 unfolding rule takes_in first_in idle_in
 identifier = record { takes = refl; first = refl; idle = refl }
 
