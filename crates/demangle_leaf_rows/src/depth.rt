@@ -1,7 +1,7 @@
 //! The levels that are left, by value: a reader that enters a level gives none back.
 
 ghost use Rattle.std.specs.Prelude.{◌≡◌, suc, MatchResult};
-ghost use Rattle.demangle_leaf.specs.Hidden.{Hides};
+ghost use Rattle.demangle_leaf_rows.specs.Hidden.{Hides};
 ghost use Rattle.demangle_text.specs.declared.error.Error.TheVariants.{TooMuchRecursion};
 
 use demangle_text::{Error, Result};
