@@ -1,0 +1,4 @@
+pub mod Woven
+pub mod Calls
+pub mod Equality
+pub mod Copies
