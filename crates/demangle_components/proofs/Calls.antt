@@ -176,8 +176,12 @@ pub listed_numbered : {A : Type 0} (tree : A → Core) (ns us : List A) (ks : Li
 unfolding table_from
 listed_numbered tree ns us ks = first_list 0 (map tree ns) (map tree us) ks
 
+pub listed_others : {A : Type 0} (tree : A → Core) (ns us : List A) (ks : List ℕ) → length ks ≡ length us → listed U (table_from tree ns us ks) ≡ map tree us
+unfolding table_from
+listed_others tree ns us ks paired = second_list 0 (map tree ns) (map tree us) ks (paired ∙ sym (length-map us tree))
+
 pub nothing : {A : Type 0} (tree : A → Core) → table_from tree [] [] [] ≡ empty_table
 unfolding table_from empty_table
 nothing tree = refl
 
-pub ruleset calls = (nothing, numbered_alone, listed_numbered, other_there, climbs, climbs_short, inserted, other_inserted, cut_short, numbered_size, others_size, both_sizes, numbered_at, other_at, rising_more, paired_other, rising_other, paired_cut, rising_cut)
+pub ruleset calls = (nothing, numbered_alone, listed_numbered, listed_others, other_there, climbs, climbs_short, inserted, other_inserted, cut_short, numbered_size, others_size, both_sizes, numbered_at, other_at, rising_more, paired_other, rising_other, paired_cut, rising_cut)

@@ -2,7 +2,6 @@
 
 ghost use Rattle.std.specs.Prelude.{◌≡◌, ◌+◌, ◌-◌, ◌<◌, length, map, min, IfOk, IfErr, OnOk, OnErr, IfSome, IfNone, IsTrue, Some, option_map, ◌↔◌};
 ghost use Rattle.std.specs.Cmp.{on_equiv, on_per, partial_equiv_from_equiv};
-ghost use Rattle.std.specs.Slice.Iter.{iter_rest};
 ghost use Rattle.demangle_core.specs.Core.{N, U};
 ghost use Rattle.demangle_core.specs.Same.{same_tables_equiv};
 ghost use Rattle.demangle_core.specs.Table.{added, cut, empty_table, entry_at, listed, numbered, same_tables, size, sizes};
@@ -11,10 +10,9 @@ ghost use Rattle.demangle_components.specs.View.{Climb, Rise, Rise-prop};
 
 use crate::component::{Component, CopyComponent};
 use std::alloc::Global;
-use std::slice::Iter;
 
 /// The components of a name in the order in which they were completed: the numbered ones, which `S_` and its like refer
-/// to, and the others. ABI section 5.1.10, `<substitution>`.
+/// to, and the others.
 #[derive(Drop)]
 pub struct Components<T> {
     numbered: Vec<T>,
@@ -28,7 +26,7 @@ pub struct Components<T> {
 impl<T: Component> Components<T> {
     ghost use Rattle.demangle_components.specs.TableOf.{table_of};
 
-    /// A table with no entries. It takes no memory. `Default` of the original.
+    /// A table with no entries. It takes no memory.
     #[tactic(auto, using(crate::proofs::Calls::calls))]
     pub fn new(alloc: Global) -> Components<T>
         ensures { table_of T.tree result ≡ empty_table }
@@ -40,7 +38,7 @@ impl<T: Component> Components<T> {
         }
     }
 
-    /// A table of these numbered components and no others. It takes no memory. `FromIterator` of the original.
+    /// A table of these numbered components and no others. It takes no memory.
     #[tactic(auto, using(crate::proofs::Calls::calls))]
     pub fn from_list(alloc: Global, list: Vec<T>) -> Components<T>
         ensures { table_of T.tree result ≡ numbered (map T.tree list.items) }
@@ -53,35 +51,35 @@ impl<T: Component> Components<T> {
     }
 
     /// Adds a numbered component, and answers its position. For want of memory the component comes back, and the table is
-    /// as before. The original's method of this name.
+    /// as before.
     #[tactic(auto, using(crate::proofs::Calls::calls))]
-    pub fn insert(&mut self, entity: T) -> Result<usize, T>
+    pub fn insert(&mut self, component: T) -> Result<usize, T>
         ensures position { IfOk result (λ n. n ≡ size N (table_of T.tree self.old)) }
-        ensures inserted { OnOk result (table_of T.tree self.new ≡ added N (T.tree entity) (table_of T.tree self.old)) }
+        ensures inserted { OnOk result (table_of T.tree self.new ≡ added N (T.tree component) (table_of T.tree self.old)) }
         ensures unchanged { OnErr result (table_of T.tree self.new ≡ table_of T.tree self.old) }
-        ensures handed_back { IfErr result (λ e. e ≡ entity) }
+        ensures handed_back { IfErr result (λ e. e ≡ component) }
     {
         let position = self.numbered.len();
-        match self.numbered.push(entity) {
+        match self.numbered.push(component) {
             Ok(()) => Ok(position),
             Err(failed) => Err(failed.value),
         }
     }
 
     /// Adds a component that no number refers to, and answers its position among these. For want of memory the component
-    /// comes back, and the table is as before. The original's method of this name.
+    /// comes back, and the table is as before.
     #[tactic(auto, using(crate::proofs::Calls::calls))]
-    pub fn insert_other(&mut self, entity: T) -> Result<usize, T>
+    pub fn insert_other(&mut self, component: T) -> Result<usize, T>
         ensures position { IfOk result (λ n. n ≡ size U (table_of T.tree self.old)) }
-        ensures inserted { OnOk result (table_of T.tree self.new ≡ added U (T.tree entity) (table_of T.tree self.old)) }
+        ensures inserted { OnOk result (table_of T.tree self.new ≡ added U (T.tree component) (table_of T.tree self.old)) }
         ensures unchanged { OnErr result (table_of T.tree self.new ≡ table_of T.tree self.old) }
-        ensures handed_back { IfErr result (λ e. e ≡ entity) }
+        ensures handed_back { IfErr result (λ e. e ≡ component) }
     {
         let position = self.others.len();
         if self.kept.push(self.numbered.len()).is_err() {
-            return Err(entity);
+            return Err(component);
         }
-        match self.others.push(entity) {
+        match self.others.push(component) {
             Ok(()) => Ok(position),
             Err(failed) => {
                 self.kept.pop();
@@ -90,7 +88,7 @@ impl<T: Component> Components<T> {
         }
     }
 
-    /// Whether a numbered component stands at `idx`. The original's method of this name.
+    /// Whether a numbered component stands at `idx`.
     #[tactic(auto, using(crate::proofs::Calls::calls))]
     pub fn contains(&self, idx: usize) -> bool
         ensures { IsTrue result ↔ (idx < size N (table_of T.tree self.now)) }
@@ -98,7 +96,7 @@ impl<T: Component> Components<T> {
         idx < self.numbered.len()
     }
 
-    /// The numbered component at `idx`; `None` exactly where there is none. `Deref` to a slice in the original.
+    /// The numbered component at `idx`; `None` exactly where there is none.
     #[tactic(auto, using(crate::proofs::Calls::calls))]
     pub fn get(&self, idx: usize) -> Option<&T>
         ensures { option_map (λ x. T.tree x.now) result ≡ entry_at N idx (table_of T.tree self.now) }
@@ -106,7 +104,7 @@ impl<T: Component> Components<T> {
         self.numbered.get(idx)
     }
 
-    /// How many numbered components there are. `Deref` to a slice in the original.
+    /// How many numbered components there are.
     #[tactic(auto, using(crate::proofs::Calls::calls))]
     pub fn len(&self) -> usize
         ensures { result ≡ size N (table_of T.tree self.now) }
@@ -114,15 +112,23 @@ impl<T: Component> Components<T> {
         self.numbered.len()
     }
 
-    /// The numbered components in order. `Deref` to a slice in the original.
+    /// The numbered components in order.
     #[tactic(auto, using(crate::proofs::Calls::calls))]
-    pub fn iter(&self) -> Iter<'_, T>
-        ensures { map T.tree (iter_rest result) ≡ listed N (table_of T.tree self.now) }
+    pub fn numbered(&self) -> &[T]
+        ensures { map T.tree result.now ≡ listed N (table_of T.tree self.now) }
     {
-        self.numbered.iter()
+        &self.numbered
     }
 
-    /// The component at `idx` of those that no number refers to, which must be there. The original's method of this name.
+    /// The other components in order.
+    #[tactic(auto, using(crate::proofs::Calls::calls))]
+    pub fn others(&self) -> &[T]
+        ensures { map T.tree result.now ≡ listed U (table_of T.tree self.now) }
+    {
+        &self.others
+    }
+
+    /// The component at `idx` of those that no number refers to, which must be there.
     #[tactic(auto, using(crate::proofs::Calls::calls))]
     pub fn other(&self, idx: usize) -> &T
         requires { idx < size U (table_of T.tree self.now) }
@@ -131,8 +137,7 @@ impl<T: Component> Components<T> {
         &self.others[idx]
     }
 
-    /// The component at `idx` of those that no number refers to; `None` exactly where there is none. The original's method of
-    /// this name.
+    /// The component at `idx` of those that no number refers to; `None` exactly where there is none.
     #[tactic(auto, using(crate::proofs::Calls::calls))]
     pub fn get_other(&self, idx: usize) -> Option<&T>
         ensures { option_map (λ x. T.tree x.now) result ≡ entry_at U idx (table_of T.tree self.now) }
@@ -140,7 +145,7 @@ impl<T: Component> Components<T> {
         self.others.get(idx)
     }
 
-    /// How many numbered components and how many others there are. An addition to the original.
+    /// How many numbered components and how many others there are.
     #[tactic(auto, using(crate::proofs::Calls::calls))]
     pub fn lengths(&self) -> (usize, usize)
         ensures { result ≡ sizes (table_of T.tree self.now) }
@@ -148,7 +153,7 @@ impl<T: Component> Components<T> {
         (self.numbered.len(), self.others.len())
     }
 
-    /// How many components there are in both lists. An addition to the original.
+    /// How many components there are in both lists.
     #[tactic(auto, using(crate::proofs::Calls::calls))]
     pub fn entry_count(&self) -> usize
         ensures { result ≡ size N (table_of T.tree self.now) + size U (table_of T.tree self.now) }
@@ -156,7 +161,7 @@ impl<T: Component> Components<T> {
         self.numbered.len() + self.others.len()
     }
 
-    /// Takes the last numbered component out; `None` exactly where there is none. The original's method of this name.
+    /// Takes the last numbered component out; `None` exactly where there is none.
     #[tactic(auto, using(crate::proofs::Calls::calls))]
     pub fn pop(&mut self) -> Option<T>
         ensures last { IfSome result (λ x. entry_at N (size N (table_of T.tree self.old) - 1) (table_of T.tree self.old) ≡ Some (T.tree x)) }
@@ -171,7 +176,7 @@ impl<T: Component> Components<T> {
     }
 
     /// A copy whose components `copier` makes, in the same order of insertion over both lists. `OutOfMemory` is its only
-    /// refusal. `Clone` in the original.
+    /// refusal.
     #[tactic(auto, using(crate::proofs::Copies::copies))]
     pub fn copy_with<C: CopyComponent<T>>(
         &self,
@@ -191,8 +196,7 @@ impl<T: Component> Components<T> {
         })
     }
 
-    /// Cuts both lists to these lengths: what was inserted after them is gone. A length above the present one cuts nothing. An
-    /// addition to the original.
+    /// Cuts both lists to these lengths: what was inserted after them is gone. A length above the present one cuts nothing.
     #[tactic(auto, using(crate::proofs::Calls::calls))]
     pub fn cut_back(&mut self, lengths: (usize, usize))
         ensures { table_of T.tree self.new ≡ cut lengths (table_of T.tree self.old) }

@@ -1,4 +1,0 @@
-pub mod Woven
-pub mod Calls
-pub mod Equality
-pub mod Copies
