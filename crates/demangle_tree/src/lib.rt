@@ -21,7 +21,7 @@ pub use demangle_entries::{
     UnresolvedTypeHandle, UnscopedName, UnscopedTemplateName, UnscopedTemplateNameHandle, VOffset,
     VectorType,
 };
-pub use demangle_table::{CopyComponent, SubstitutionTable, insert_and_cut_back};
+pub use demangle_table::{CopyComponent, SubstitutionTable};
 pub use leaf_names::GetLeafName;
 pub use special_names::IsCtorDtorConversion;
 pub use template_args::GetTemplateArgs;
