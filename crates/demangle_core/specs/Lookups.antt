@@ -1,6 +1,6 @@
 -- What is looked up in a name or a type: its leaf name, its template arguments, and whether it is a constructor, a
--- destructor or a conversion. For trees of any kind X, one line a node says what the node has, where that of its parts is
--- known; behind these lines stand the look-ups of a tree with its table.
+-- destructor or a conversion. For trees of any kind X, one line a node says what the node has, where that of its parts
+-- is known; behind these lines stand the look-ups of a tree with its table.
 use Rattle.std.specs.Prelude.{ℕ, zero, suc, ◌+◌, Bool, true, false, List, [], ◌∷◌, Option, Some, None, is_some}
 use Rattle.demangle_core.specs.Core.{Tag, Core, Which, N, U, end, node, place, number, flag, chosen, ref, mark}
 use Rattle.demangle_core.specs.Table.{Table, entry_at, size}
@@ -25,8 +25,8 @@ abbrev pub refers : {X : Type 0} → Next X → Bool
 refers (at w k) = true
 refers _ = false
 
--- The first where it comes to an answer or a component, else the second. A component ends the choice even where it turns
--- out to have no answer: what is tried first is an unqualified name, and none of these is a reference.
+-- The first where it comes to an answer or a component, else the second. A component ends the choice even where it
+-- turns out to have no answer: what is tried first is an unqualified name, and none of these is a reference.
 abbrev pub else_next : {X : Type 0} → Next X → Next X → Next X
 else_next nothing b = b
 else_next a b = a
@@ -41,8 +41,8 @@ abbrev pub leaf_word : {X : Type 0} → (table word : ℕ) → X → Next X
 leaf_word (suc (suc zero)) (suc word) x = answer x
 leaf_word _ _ x = nothing
 
--- Of a node x, where `steps` are those of its parts: the node itself, what one part has, or what the name has and else the
--- prefix.
+-- Of a node x, where `steps` are those of its parts: the node itself, what one part has, or what the name has and else
+-- the prefix.
 abbrev pub leaf_node : {X : Type 0} → Tag → X → (steps : List (Next X)) → Next X
 leaf_node Tag.SourceName x steps = answer x
 leaf_node Tag.ClosureTypeName x steps = answer x

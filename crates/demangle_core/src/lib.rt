@@ -5,8 +5,8 @@
 ghost use Rattle.demangle_core.specs.Laws.{CutTakesBack, LookupsEnd};
 ghost use Rattle.demangle_core.specs.Laws.{EqualityIsAnEquivalence, EqualityOfTablesIsAnEquivalence};
 
-/// Equality of trees, which leaves the place of argument lists out, is reflexive and symmetric, and equal trees are equal
-/// to the same trees.
+/// Equality of trees, which leaves the place of argument lists out, is reflexive and symmetric, and equal trees are
+/// equal to the same trees.
 pub fn equality_is_an_equivalence()
     ensures { EqualityIsAnEquivalence }
 {}

@@ -1,5 +1,6 @@
 -- Tables of words, and the word of a table at the front of the bytes.
-use Rattle.std.specs.Prelude.{ℕ, zero, suc, Bool, true, false, List, [], ◌∷◌, length, ◌==◌, ◌&&◌, ◌||◌, not, if◌then◌else◌, Result, Option, Some, None}
+use Rattle.std.specs.Prelude.{ℕ, zero, suc, Bool, true, false, List, [], ◌∷◌, length, ◌==◌, ◌&&◌, ◌||◌, not}
+use Rattle.std.specs.Prelude.{if◌then◌else◌, Result, Option, Some, None}
 use Rattle.demangle_text.specs.Kind.{Cause, End, Text, Kind}
 use Rattle.demangle_text.specs.Spot.{Spot}
 use Rattle.demangle_text.specs.Found.{Found, took, none, and_length, placed}

@@ -1,7 +1,7 @@
 -- Where no word is a prefix of another one, each word of a table is found where it stands at the front.
 use Rattle.std.proofs.Common.{◌≡◌, ℕ, suc, ◌+◌, List, [], ◌∷◌, ◌++◌, length, refl, sym, ap, ◌∙◌, subst, arith, zero-add, true, false, ◌||◌, Some}
 use Rattle.demangle_text.specs.Word.{starts}
-use Rattle.demangle_vocab.specs.Table.{word_in, word_or, no_word, is_apart, is_prefix_free}
+use Rattle.demangle_vocab.specs.WordTable.{word_in, word_or, no_word, is_apart, is_prefix_free}
 use Rattle.demangle_vocab.specs.Order.{ReadsEachWord}
 
 -- of two words at the front one is a prefix of the other
