@@ -6,7 +6,7 @@ use Rattle.demangle_text.specs.Spot.{Spot, skip}
 use Rattle.demangle_text.specs.Found.{Found, took, none, and_rest, placed}
 use Rattle.demangle_text.specs.Word.{starts, word_at}
 use Rattle.demangle_text.specs.Number.{natural_at, natural_from}
-use Rattle.demangle_vocab.specs.Table.{text_at, word_read, table_from}
+use Rattle.demangle_vocab.specs.WordTable.{text_at, word_read, table_from}
 use Rattle.demangle_vocab.specs.Builtins.{builtins, builtin_words}
 use Rattle.demangle_grammar.specs.CallText.{call_text, call_of, joined, further_types, type_texts, call_with, source_name, behind_number, identifier_of, is_identifier, letter_text}
 use Rattle.cpp_demangle.specs.Letter.{IsLetter}
