@@ -61,7 +61,7 @@ abbrev pub is_tail : List ℕ → Bool
 is_tail tail = same_bytes tail [] || (same_bytes tail (codes "$S") || (same_bytes tail (codes "$_") || same_bytes tail (codes "$$")))
 
 abbrev pub holds_place : Tag → Eat → List ℕ → Bool
-holds_place Tag.Identifier (Eat.run Class.identifier) [] = true
+holds_place Tag.Identifier Eat.identifier [] = true
 holds_place Tag.CloneTypeIdentifier (Eat.run Class.clone) [] = true
 holds_place Tag.ResourceName (Eat.run Class.resource) tail = is_tail tail
 holds_place Tag.ExprPrimaryLiteral (Eat.upto b) [] = b == 69
@@ -85,6 +85,7 @@ has_result false q = true
 -- ---- leaves: what is known behind one, from what is known before it; behind one that always fails nothing is asked
 abbrev pub finds : Eat → Known → Known
 finds (Eat.run c) q = Known.placed (is_none q) (Eat.run c) []
+finds Eat.identifier q = Known.placed (is_none q) Eat.identifier []
 finds (Eat.upto b) q = Known.placed (is_none q) (Eat.upto b) []
 finds (Eat.byte c) q = wide q
 finds _ q = Known.some
