@@ -72,14 +72,14 @@ abbrev pub FollowsReferences : Type 0
 FollowsReferences = (table : Table) (input : List ℕ) (tree : Core) (most : ℕ) → RefsSound table tree →
     length table ≤ most → expand_upto most table input tree ≡ expand table input tree
 
--- In place of a reference, whose handle is a node, stands the expanded tree of its entry in the node of its kind.
+-- In place of a reference and its handle stands the expanded tree of its entry in the node of its kind.
 abbrev pub ExpandsEntries : Type 0
 ExpandsEntries = (table : Table) (input : List ℕ) (handle kind : Tag) (w : Which) (k : ℕ) (entry m more next : Core) →
     ReferBack [] table → entry_at w k table ≡ Some (node kind entry more) →
     expand table input (node handle (ref w k m) next)
     ≡ expanded.node kind (expand table input entry) (expand table input next)
 
--- Where each entry is one node, no reference leads to nothing.
+-- Where each entry is a component's node, no reference leads to nothing.
 abbrev pub ExpandsAll : Type 0
 ExpandsAll = (table : Table) (input : List ℕ) (tree : Core) → RefsSound table tree → EachEntry IsComponent table →
     IsExpanded (expand table input tree)

@@ -42,6 +42,7 @@ HasPlaces input t (chosen k w n) = HasPlaces input t n
 HasPlaces input t (ref w k n) = HasPlaces input t n
 HasPlaces input t (mark i n) = HasPlaces input t n
 
+-- a row of one field at least
 abbrev pub IsSomeRow : Core → Type 0
 IsSomeRow end = ⊥
 IsSomeRow _ = Unit {0}

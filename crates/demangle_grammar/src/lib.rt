@@ -68,12 +68,12 @@ pub fn follows_references()
     ensures { FollowsReferences }
 {}
 
-/// In place of a reference stands the expanded tree of its entry in the node of its kind.
+/// In place of a reference and its handle stands the expanded tree of its entry in the node of its kind.
 pub fn expands_entries()
     ensures { ExpandsEntries }
 {}
 
-/// Where each entry is one node, no reference leads to nothing.
+/// Where each entry is a component's node, no reference leads to nothing.
 pub fn expands_all()
     ensures { ExpandsAll }
 {}
