@@ -13,7 +13,7 @@ use Rattle.demangle_text.specs.Characters.{identifier_len}
 use Rattle.demangle_text.proofs.Runs.{run_inside}
 use Rattle.demangle_text.specs.Word.{starts, missing_word, word_at}
 use Rattle.demangle_text.specs.Number.{natural_at, number_at, natural_from, number_from}
-use Rattle.demangle_vocab.specs.Table.{table_at, word_read, table_from}
+use Rattle.demangle_vocab.specs.WordTable.{table_at, word_read, table_from}
 use Rattle.demangle_grammar.specs.Rule.{Given, Class, Row, Eat, Leaf, Rule}
 use Rattle.demangle_grammar.specs.Tree.{cores, How, shape, component_of, template_entry, taken_of, reference}
 use Rattle.demangle_grammar.specs.Rows.{rule}

@@ -25,7 +25,7 @@ use Rattle.demangle_text.specs.Characters.{AreIdentifierChars, identifier_len}
 use Rattle.demangle_text.proofs.Identifiers.{run_is_chars}
 use Rattle.demangle_text.proofs.Runs.{run_inside}
 use Rattle.demangle_grammar.proofs.Numbers.{span_all, NaturalAt, natural_fits, NumberAt, WordAt, word_fits, number_fits}
-use Rattle.demangle_vocab.specs.Table.{table_at}
+use Rattle.demangle_vocab.specs.WordTable.{table_at}
 
 -- ---- what is found
 abbrev pub Is : Eat → ℕ → List ℕ → Found Core → Type 0

@@ -17,7 +17,7 @@ use Rattle.demangle_text.specs.Kind.{Cause, Text, Bad}
 use Rattle.demangle_text.specs.Found.{Found, took, none, mapped}
 use Rattle.demangle_text.specs.Bytes.{is_digit, span}
 use Rattle.demangle_text.specs.Characters.{identifier_len}
-use Rattle.demangle_vocab.specs.Table.{table_at}
+use Rattle.demangle_vocab.specs.WordTable.{table_at}
 use Rattle.demangle_grammar.proofs.Numbers.{starts_so}
 
 pub record Keeps (s : State) (a : Tree) (t : State) (c : Tree) : Type 0 where
