@@ -1,6 +1,6 @@
 -- Expanding follows each reference: with as many steps as there are entries, and more change nothing.
 use Rattle.std.specs.Prelude.{◌≡◌, ℕ, zero, suc, ◌<◌, ◌≤◌, Bool, true, false, List, [], ◌∷◌, ◌++◌, length, Option, Some, None, slice_get}
-use Rattle.std.proofs.Common.{refl, ap, ◌∙◌, sym, subst, append_assoc, arith}
+use Rattle.std.proofs.Common.{refl, ap, ◌∙◌, sym, subst, arith}
 use Rattle.demangle_core.specs.Core.{Core, Tag, Which, same_which}
 use Rattle.demangle_core.specs.Core as core
 use Rattle.demangle_core.specs.Table.{Entry, Table, count, count_if, listed, more_if, entry_at}
