@@ -55,7 +55,7 @@ option_tree d (Some x) = x
 option_tree d None = d
 
 -- ---- each reference leads to an entry
-each_listed : (P : Core → Type 0) (w : Which) (t : Table) (k : ℕ) (x : Core) → EachEntry P t → slice_get (listed w t) k ≡ Some x → P x
+pub each_listed : (P : Core → Type 0) (w : Which) (t : Table) (k : ℕ) (x : Core) → EachEntry P t → slice_get (listed w t) k ≡ Some x → P x
 each_listed P w [] k x h e = absurd (cc)
 each_listed P w (y ∷ t) k x h e = by (same_which w y.which) k e (λ j p. each_listed P w t j x h.1 p)
   where
@@ -102,7 +102,7 @@ unfolding expand
 follows_references table input c most s l = enough table input s.0 most (length table) table [] (sym (append-nil table)) l (same (length table)) c s.1
 
 -- a position at which there is an entry
-listed_count : (w : Which) (t : List Entry) → length (listed w t) ≡ count w t
+pub listed_count : (w : Which) (t : List Entry) → length (listed w t) ≡ count w t
 listed_count w [] = refl
 listed_count w (x ∷ t) = by (same_which w x.which) (listed_count w t)
   where
@@ -110,7 +110,7 @@ listed_count w (x ∷ t) = by (same_which w x.which) (listed_count w t)
     by true h = omega (arith, h)
     by false h = h
 
-counts : (w : Which) (k : ℕ) (t : Table) (x : Core) → entry_at w k t ≡ Some x → k < count w t
+pub counts : (w : Which) (k : ℕ) (t : Table) (x : Core) → entry_at w k t ≡ Some x → k < count w t
 unfolding entry_at
 counts w k t x e = subst (λ n. k < n) (listed_count w t) (slice_get_within (listed w t) k x e)
 
