@@ -24,3 +24,10 @@ pub mod Firsts
 pub mod ReadRows1
 pub mod ByHand
 pub mod Expands
+pub mod SayTheSame
+pub mod Stands
+pub mod Fields
+pub mod Shapes
+pub mod PartsKnown
+pub mod Sounds
+pub mod SoundFor
