@@ -1,15 +1,15 @@
 //! The context of reading: the limit on levels, the level, and the conversion flag.
 
 ghost use Rattle.std.specs.Prelude.{◌≡◌, ◌+◌, ◌<◌, ℕ, suc, Bool, false, MatchResult, ◌↔◌, IsTrue, true};
-ghost use Rattle.demangle_leaf.specs.Context.{Context, levels_left};
+ghost use Rattle.demangle_leaf_rows.specs.Context.{Context, levels_left};
 ghost use Rattle.demangle_text.specs.declared.error.Error.TheVariants.{TooMuchRecursion};
 
 use crate::depth::Depth;
 use demangle_text::{Error, ParseOptions, Result};
 use std::marker::Model;
 
-/// How deep a reading is, and how deep it may go. In a contract it is its limit, its level and its flag; the level is always below
-/// the limit.
+/// How deep a reading is, and how deep it may go. In a contract it is its limit, its level and its flag; the level is
+/// always below the limit.
 #[derive(Clone, Debug, Drop)]
 pub struct ParseContext {
     limit: u32,
@@ -18,7 +18,7 @@ pub struct ParseContext {
 }
 
 impl Model for ParseContext {
-    ghost use Rattle.demangle_leaf.specs.Context.{Context};
+    ghost use Rattle.demangle_leaf_rows.specs.Context.{Context};
     ghost use Rattle.std.specs.Prelude.{◌<◌};
 
     ghost Value = { Context };
@@ -52,7 +52,8 @@ impl ParseContext {
     /// Enters a level. `TooMuchRecursion`, and the context as before, exactly where the level plus 1 is the limit.
     pub fn enter(&mut self) -> Result<()>
         ensures { MatchResult result
-            (λ x. (self.old.level + 1 < self.old.limit) × (self.new ≡ record { limit = self.old.limit; level = self.old.level + 1; conversion = self.old.conversion }))
+            (λ x. (self.old.level + 1 < self.old.limit)
+            × (self.new ≡ record { limit = self.old.limit; level = self.old.level + 1; conversion = self.old.conversion }))
             (λ e. (e ≡ TooMuchRecursion) × (self.old.level + 1 ≡ self.old.limit) × (self.new ≡ self.old)) }
     {
         let next = self.level + 1;
