@@ -12,7 +12,8 @@ all_of w xs = map (λ x. record { which = w; tree = x }) xs
 abbrev pub woven : ℕ → List Core → List Core → List ℕ → Table
 woven i first [] ks = all_of N first
 woven i first (u ∷ us) [] = all_of N first
-woven i first (u ∷ us) (k ∷ ks) = all_of N (take (k - i) first) ++ (record { which = U; tree = u } ∷ woven k (drop (k - i) first) us ks)
+woven i first (u ∷ us) (k ∷ ks) = all_of N (take (k - i) first) ++ (record { which = U; tree = u } ∷ woven k (drop
+    (k - i) first) us ks)
 
 unfoldable pub table_from : {A : Type 0} → (A → Core) → List A → List A → List ℕ → Table
 table_from tree ns us ks = woven 0 (map tree ns) (map tree us) ks

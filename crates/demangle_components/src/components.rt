@@ -1,10 +1,12 @@
 //! The two lists of components.
 
-ghost use Rattle.std.specs.Prelude.{◌≡◌, ◌+◌, ◌-◌, ◌<◌, length, map, min, IfOk, IfErr, OnOk, OnErr, IfSome, IfNone, IsTrue, Some, option_map, ◌↔◌};
+ghost use Rattle.std.specs.Prelude.{◌≡◌, ◌+◌, ◌-◌, ◌<◌, length, map, min, IfOk, IfErr, OnOk, OnErr, IfSome, IfNone};
+ghost use Rattle.std.specs.Prelude.{IsTrue, Some, option_map, ◌↔◌};
 ghost use Rattle.std.specs.Cmp.{on_equiv, on_per, partial_equiv_from_equiv};
 ghost use Rattle.demangle_core.specs.Core.{N, U};
 ghost use Rattle.demangle_core.specs.Same.{same_tables_equiv};
-ghost use Rattle.demangle_core.specs.Table.{added, cut, empty_table, entry_at, listed, numbered, same_tables, size, sizes};
+ghost use Rattle.demangle_core.specs.Table.{added, cut, empty_table, entry_at, listed, numbered, same_tables, size};
+ghost use Rattle.demangle_core.specs.Table.{sizes};
 ghost use Rattle.demangle_text.specs.declared.error.Error.TheVariants.{OutOfMemory};
 ghost use Rattle.demangle_components.specs.View.{Climb, Rise, Rise-prop};
 
@@ -50,12 +52,13 @@ impl<T: Component> Components<T> {
         }
     }
 
-    /// Adds a numbered component, and answers its position. For want of memory the component comes back, and the table is
-    /// as before.
+    /// Adds a numbered component, and answers its position. For want of memory the component comes back, and the table
+    /// is as before.
     #[tactic(auto, using(crate::proofs::Calls::calls))]
     pub fn insert(&mut self, component: T) -> Result<usize, T>
         ensures position { IfOk result (λ n. n ≡ size N (table_of T.tree self.old)) }
-        ensures inserted { OnOk result (table_of T.tree self.new ≡ added N (T.tree component) (table_of T.tree self.old)) }
+        ensures inserted { OnOk result (table_of T.tree self.new
+            ≡ added N (T.tree component) (table_of T.tree self.old)) }
         ensures unchanged { OnErr result (table_of T.tree self.new ≡ table_of T.tree self.old) }
         ensures handed_back { IfErr result (λ e. e ≡ component) }
     {
@@ -66,12 +69,13 @@ impl<T: Component> Components<T> {
         }
     }
 
-    /// Adds a component that no number refers to, and answers its position among these. For want of memory the component
-    /// comes back, and the table is as before.
+    /// Adds a component that no number refers to, and answers its position among these. For want of memory the
+    /// component comes back, and the table is as before.
     #[tactic(auto, using(crate::proofs::Calls::calls))]
     pub fn insert_other(&mut self, component: T) -> Result<usize, T>
         ensures position { IfOk result (λ n. n ≡ size U (table_of T.tree self.old)) }
-        ensures inserted { OnOk result (table_of T.tree self.new ≡ added U (T.tree component) (table_of T.tree self.old)) }
+        ensures inserted { OnOk result (table_of T.tree self.new
+            ≡ added U (T.tree component) (table_of T.tree self.old)) }
         ensures unchanged { OnErr result (table_of T.tree self.new ≡ table_of T.tree self.old) }
         ensures handed_back { IfErr result (λ e. e ≡ component) }
     {
@@ -164,8 +168,11 @@ impl<T: Component> Components<T> {
     /// Takes the last numbered component out; `None` exactly where there is none.
     #[tactic(auto, using(crate::proofs::Calls::calls))]
     pub fn pop(&mut self) -> Option<T>
-        ensures last { IfSome result (λ x. entry_at N (size N (table_of T.tree self.old) - 1) (table_of T.tree self.old) ≡ Some (T.tree x)) }
-        ensures shorter { IfSome result (λ _. table_of T.tree self.new ≡ cut (size N (table_of T.tree self.old) - 1, size U (table_of T.tree self.old)) (table_of T.tree self.old)) }
+        ensures last { IfSome result (λ x. entry_at N (size N (table_of T.tree self.old) - 1)
+            (table_of T.tree self.old) ≡ Some (T.tree x)) }
+        ensures shorter { IfSome result (λ _. table_of T.tree self.new
+            ≡ cut (size N (table_of T.tree self.old) - 1, size U (table_of T.tree self.old))
+            (table_of T.tree self.old)) }
         ensures some { IfSome result (λ _. 0 < size N (table_of T.tree self.old)) }
         ensures none { IfNone result (size N (table_of T.tree self.old) ≡ 0) }
         ensures unchanged { IfNone result (table_of T.tree self.new ≡ table_of T.tree self.old) }
@@ -175,8 +182,8 @@ impl<T: Component> Components<T> {
         Some(last)
     }
 
-    /// A copy whose components `copier` makes, in the same order of insertion over both lists. `OutOfMemory` is its only
-    /// refusal.
+    /// A copy whose components `copier` makes, in the same order of insertion over both lists. `OutOfMemory` is its
+    /// only refusal.
     #[tactic(auto, using(crate::proofs::Copies::copies))]
     pub fn copy_with<C: CopyComponent<T>>(
         &self,
@@ -196,7 +203,8 @@ impl<T: Component> Components<T> {
         })
     }
 
-    /// Cuts both lists to these lengths: what was inserted after them is gone. A length above the present one cuts nothing.
+    /// Cuts both lists to these lengths: what was inserted after them is gone. A length above the present one cuts
+    /// nothing.
     #[tactic(auto, using(crate::proofs::Calls::calls))]
     pub fn cut_back(&mut self, lengths: (usize, usize))
         ensures { table_of T.tree self.new ≡ cut lengths (table_of T.tree self.old) }
@@ -218,8 +226,7 @@ impl<T: Component> PartialEq for Components<T> {
 
     #[tactic(auto, using(crate::proofs::Equality::tables_equal))]
     fn eq(&self, other: &Components<T>) -> bool {
-        self.numbered == other.numbered
-            && self.others == other.others
+        self.numbered == other.numbered && self.others == other.others
     }
 }
 

@@ -1,15 +1,17 @@
 -- What holds of each reading. A row is read from a state, which holds the index, the bytes that are left and the entries of
 -- both lists so far; `nil` says that no parts were read before it.
-use Rattle.std.specs.Prelude.{◌≡◌, ◌≢◌, ℕ, suc, false, ◌∷◌, codes, ◌+◌, ◌-◌, ◌<◌, ◌≤◌, ◌↔◌, Bool, true, List, [], ◌++◌, length}
-use Rattle.demangle_core.specs.Table.{Entry, cut, sizes, Table}
-use Rattle.demangle_core.specs.Core.{Core, end, node, place, ◌⊕◌, Tag, N, U}
+use Rattle.std.specs.Prelude.{◌≡◌, ◌≢◌, ℕ, suc, false, ◌∷◌, codes, ◌+◌, ◌-◌, ◌<◌, ◌≤◌, ◌↔◌, Bool, true, List, [], ◌++◌, length, Some}
+use Rattle.demangle_core.specs.Table.{Entry, cut, sizes, Table, entry_at}
+use Rattle.demangle_core.specs.Core.{Core, end, node, place, ref, ◌⊕◌, Tag, Which, N, U}
 use Rattle.demangle_grammar.specs.Rule.{Row}
 use Rattle.demangle_grammar.specs.Tree.{Tree, trees, cores, reference, core, nil, spell, components, Sound}
 use Rattle.demangle_core.specs.Sound.{RefersTo, ReferBack, RefsSound}
 use Rattle.demangle_grammar.specs.Rows.{rule}
 use Rattle.demangle_grammar.specs.Reading.{State, Answer, Yes, No, Deep, read_from, read_all, levels_of}
 use Rattle.demangle_grammar.specs.Fits.{Fits}
-use Rattle.demangle_grammar.specs.Sound.{IsSoundFor}
+use Rattle.demangle_grammar.specs.Sound.{IsSoundFor, IsSoundTable, StandsAt, IsComponent, EachEntry}
+use Rattle.demangle_grammar.specs.Expand.{IsExpanded, expand_upto, expand}
+use Rattle.demangle_grammar.specs.Expand as expanded
 use Rattle.demangle_grammar.specs.First.{takes_row, first, idle, Misses}
 use Rattle.demangle_grammar.specs.Code.{Here, Found, joined, cread}
 use Rattle.demangle_grammar.specs.Seen.{seen, replied}
@@ -44,9 +46,30 @@ abbrev pub RefersBack : Type 0
 RefersBack = (left : ℕ) (row : Row) (conv : Bool) (s t : State) (tree : Tree) → Reads left row conv s t tree → ReferBack [] s.entries →
     ReferBack [] t.entries × RefersTo t.entries (core tree)
 
+-- Read in an input, from entries that are sound for it, the core is sound for it, and so are the entries behind the reading: each
+-- place lies in the input and holds bytes that its row reads, each function type has a result, and each entry is of its kind.
+-- What is left may end before the input does, as within a name of so many bytes.
+abbrev pub ReadsSound : Type 0
+ReadsSound = (input : List ℕ) (left : ℕ) (row : Row) (conv : Bool) (s t : State) (tree : Tree) → Reads left row conv s t tree → StandsAt input s.at s.rest →
+    IsSoundTable input s.entries → IsSoundFor input t.entries (core tree)
+
 -- What is sound for an input is sound in its references.
 abbrev pub SoundRefers : Type 0
 SoundRefers = (input : List ℕ) (table : Table) (tree : Core) → IsSoundFor input table tree → RefsSound table tree
+
+-- ---- expanding
+-- Where references are sound, expanding follows each of them: more steps than there are entries change nothing.
+abbrev pub FollowsReferences : Type 0
+FollowsReferences = (table : Table) (input : List ℕ) (tree : Core) (most : ℕ) → RefsSound table tree → length table ≤ most → expand_upto most table input tree ≡ expand table input tree
+
+-- In place of a reference, whose handle is a node, stands the expanded tree of its entry in the node of its kind.
+abbrev pub ExpandsEntries : Type 0
+ExpandsEntries = (table : Table) (input : List ℕ) (handle kind : Tag) (w : Which) (k : ℕ) (entry m more next : Core) → ReferBack [] table → entry_at w k table ≡ Some (node kind entry more) →
+    expand table input (node handle (ref w k m) next) ≡ expanded.node kind (expand table input entry) (expand table input next)
+
+-- Where each entry is one node, no reference leads to nothing.
+abbrev pub ExpandsAll : Type 0
+ExpandsAll = (table : Table) (input : List ℕ) (tree : Core) → RefsSound table tree → EachEntry IsComponent table → IsExpanded (expand table input tree)
 
 -- ---- two names
 -- from the first of these bytes, with no entries
@@ -137,6 +160,11 @@ Finds left row conv h parts x m = cread left row conv h parts ≡ Found x m
 -- A cut back to the lengths before the reading gives the old entries back.
 abbrev pub GivesBack : Type 0
 GivesBack = (left : ℕ) (row : Row) (conv : Bool) (h m : Here) (parts : List Core) (x : Core) → Finds left row conv h parts x m → cut (sizes h.table) m.table ≡ h.table
+
+-- What is found in an input, from a table that is sound for it, is sound for it.
+abbrev pub FindsSound : Type 0
+FindsSound = (input : List ℕ) (left : ℕ) (row : Row) (conv : Bool) (h m : Here) (x : Core) → Finds left row conv h [] x m → StandsAt input h.spot.index h.spot.left →
+    IsSoundTable input h.table → IsSoundFor input m.table x
 
 -- A row that has no empty spelling takes a byte.
 abbrev pub TakesByte : Type 0

@@ -4,8 +4,8 @@
 //! otherwise grow too large.
 //!
 //! Beside each type stands its production, in the BNF of the Itanium C++ ABI. An example is C++ and the bytes that are
-//! read as this node. In it `g` is an object or a function, `T` the first template parameter, and `fp` the first parameter
-//! of the function.
+//! read as this node. In it `g` is an object or a function, `T` the first template parameter, and `fp` the first
+//! parameter of the function.
 
 use demangle_leaf_nodes::{
     BareFunctionType, CallOffset, CloneSuffix, Discriminator, FunctionParam, NestedName,

@@ -1,12 +1,12 @@
 //! The syntax tree: its node types, the substitution table and the look-ups through it.
 #![tactic(auto)]
 
-mod laws;
 mod leaf_names;
 mod special_names;
 mod steps;
 mod template_args;
 
+pub use demangle_core::lookups_end;
 pub use demangle_entries::{
     AbiTag, AbiTags, ArrayType, BareFunctionType, BaseUnresolvedName, BuiltinType, CallOffset,
     ClassEnumType, CloneSuffix, CloneTypeIdentifier, ClosureTypeName, CtorDtorName, CvQualifiers,
@@ -22,7 +22,6 @@ pub use demangle_entries::{
     VectorType,
 };
 pub use demangle_table::{CopyComponent, SubstitutionTable};
-pub use laws::lookups_end;
 pub use leaf_names::GetLeafName;
 pub use special_names::IsCtorDtorConversion;
 pub use template_args::GetTemplateArgs;
