@@ -97,6 +97,7 @@ def uses_of(lines):
     """The names that the lines use, by the module that they come from."""
     text = re.sub(r'"[^"]*"', "", "\n".join(lines))
     words = set(re.findall(r"[^\s().;]+", text)) | ({"◌∷◌"} if "∷" in text else set())
+    words -= set(re.findall(r"^(\w+) :", text, re.M))
     for module, names in USES.items():
         used = [name for name in names if name in words]
         if used:

@@ -3,7 +3,10 @@
 ghost use Rattle.std.specs.Cmp.{on_per, on_equiv, partial_equiv_from_equiv};
 ghost use Rattle.demangle_core.specs.Core.{same};
 ghost use Rattle.demangle_core.specs.Same.{same_equiv};
-ghost use Rattle.demangle_entries.specs.TreeEntries.{tree_of_decltype, tree_of_prefix, tree_of_array_type, tree_of_vector_type, tree_of_class_enum_type, tree_of_exception_spec, tree_of_function_type, tree_of_type_node, tree_of_unresolved_type, tree_of_substitutable};
+ghost use Rattle.demangle_entries.specs.TreeEntries.{tree_of_decltype, tree_of_prefix, tree_of_array_type};
+ghost use Rattle.demangle_entries.specs.TreeEntries.{tree_of_vector_type, tree_of_class_enum_type};
+ghost use Rattle.demangle_entries.specs.TreeEntries.{tree_of_exception_spec, tree_of_function_type, tree_of_type_node};
+ghost use Rattle.demangle_entries.specs.TreeEntries.{tree_of_unresolved_type, tree_of_substitutable};
 
 use crate::entries::{
     ArrayType, ClassEnumType, Decltype, ExceptionSpec, FunctionType, Prefix, Substitutable,

@@ -1,17 +1,17 @@
 -- What is known of parts, as said of their core: lemmas on each word of Shapes.antt.
-use Rattle.std.specs.Prelude.{◌⊎◌, ◌≡◌, ℕ, ◌+◌, ◌≤◌, Bool, true, false, ◌&&◌, ◌||◌, not, List, [], ◌∷◌, ◌++◌, length, ◌==◌, codes}
-use Rattle.std.proofs.Common.{refl, subst, sym, ap, ◌∙◌, arith, append_assoc, length-append, inl, inr}
+use Rattle.std.specs.Prelude.{◌⊎◌, ◌≡◌, ℕ, ◌+◌, ◌≤◌, Bool, true, false, ◌&&◌, not, List, [], ◌∷◌, ◌++◌, length, ◌==◌, codes}
+use Rattle.std.proofs.Common.{refl, subst, sym, arith, append_assoc, length-append, inl, inr}
 use Rattle.std.proofs.lemmas.Bool.{eqb-true}
 use Rattle.demangle_core.specs.Core.{Core, end, node, place, ◌⊕◌, Tag}
 use Rattle.demangle_grammar.specs.Rule.{Class, Eat, Make}
-use Rattle.demangle_grammar.specs.Tree.{index_of, data_member_of, longer_by, reshaped}
+use Rattle.demangle_grammar.specs.Tree.{data_member_of, longer_by, reshaped}
 use Rattle.demangle_grammar.specs.Fits.{AllOf, IsOne}
 use Rattle.demangle_grammar.specs.Sound.{bytes_of, AreOf, HasPlaces, HasResult, HasResults, IsSomeRow, is_substitutable, HasHandles}
 use Rattle.demangle_grammar.proofs.Truth.{both_true, either}
 use Rattle.demangle_grammar.proofs.Kept.{append-nil}
 use Rattle.demangle_grammar.proofs.Stands.{Stand, stand_front, stand_both, stand_within, stand_bytes}
-use Rattle.demangle_grammar.proofs.Fields.{Places, no_place, node_around, Fields, IsEntry, fields_both, fields_so, fields_free, place_of, fields_places, fields_results, fields_handles, places_free, index_fields, data_member_fields, some_front, some_behind, index_some, data_member_some}
-use Rattle.demangle_grammar.proofs.Shapes.{Known, is_plain, is_full, is_none, wide, some_if, tells, same_bytes, is_tail, holds_place, may_hold, is_signature, has_result, makes, reads_word, marks_one, put_behind}
+use Rattle.demangle_grammar.proofs.Fields.{Places, no_place, node_around, Fields, IsEntry, fields_both, fields_so, place_of, fields_places, fields_results, fields_handles, places_free, index_fields, data_member_fields, some_front, some_behind, index_some, data_member_some}
+use Rattle.demangle_grammar.proofs.Shapes.{Known, is_plain, is_full, wide, some_if, tells, same_bytes, is_tail, holds_place, may_hold, is_signature, has_result, makes, reads_word, marks_one, put_behind}
 
 not_so : (b : Bool) → not b ≡ true → b ≡ false
 not_so true e = absurd (cc)
@@ -38,7 +38,7 @@ tail_is bs e =
 
 -- what was found, and what is behind it, is what a place of the node holds
 holds_it : (t : Tag) (x : Eat) (tail : List ℕ) → holds_place t x tail ≡ true → (at : ℕ) (bs : List ℕ) (f : Core) → IsOne x at bs f → AreOf t (bs ++ tail)
-holds_it Tag.Identifier (Eat.run Class.identifier) [] e at bs f o = subst (AreOf Tag.Identifier) (sym (append-nil bs)) (o.0, o.1)
+holds_it Tag.Identifier Eat.identifier [] e at bs f o = subst (AreOf Tag.Identifier) (sym (append-nil bs)) (o.0, o.1)
 holds_it Tag.CloneTypeIdentifier (Eat.run Class.clone) [] e at bs f o = subst (AreOf Tag.CloneTypeIdentifier) (sym (append-nil bs)) (o.0, o.1)
 holds_it Tag.ResourceName (Eat.run Class.resource) tail e at bs f o = (bs, tail, refl, o.0, o.1, tail_is tail e)
 holds_it Tag.ExprPrimaryLiteral (Eat.upto b) [] e at bs f o =
@@ -69,26 +69,23 @@ module _ (input : List ℕ) where
   placed_of : (t : Tag) (x : Eat) (tail : List ℕ) (p : ℕ) → holds_place t x [] ≡ true → (i j : ℕ) → Placed x tail p i j → place_of input t i j
   placed_of t x tail p e i j h =
       let s : Stand input i h.0 = stand_front input i h.0 tail h.5 in
-      let a : AreOf t h.0 = subst (AreOf t) (append-nil h.0) (holds_it t x [] e i h.0 h.1 h.2) in
-      (
+      let a : AreOf t h.0 = subst (AreOf t) (append-nil h.0) (holds_it t x [] e i h.0 h.1 h.2) in (
         at_most i (length h.0) j h.3,
         subst (λ k. k ≤ length input) h.3 (stand_within input i h.0 s),
         subst (λ k. AreOf t (bytes_of input i k)) h.3 (subst (AreOf t) (sym (stand_bytes input i h.0 s)) a),
       )
 
   longer_of : (t : Tag) (x : Eat) (tail : List ℕ) → holds_place t x tail ≡ true → (i j : ℕ) → Longer x tail i j → place_of input t i j
-  longer_of t x tail e i j h =
-      (
-        at_most i (length (h.0 ++ tail)) j h.3,
-        subst (λ k. k ≤ length input) h.3 (stand_within input i (h.0 ++ tail) h.4),
-        subst (λ k. AreOf t (bytes_of input i k)) h.3 (subst (AreOf t) (sym (stand_bytes input i (h.0 ++ tail) h.4)) (holds_it t x tail e i h.0 h.1 h.2)),
-      )
+  longer_of t x tail e i j h = (
+    at_most i (length (h.0 ++ tail)) j h.3,
+    subst (λ k. k ≤ length input) h.3 (stand_within input i (h.0 ++ tail) h.4),
+    subst (λ k. AreOf t (bytes_of input i k)) h.3 (subst (AreOf t) (sym (stand_bytes input i (h.0 ++ tail) h.4)) (holds_it t x tail e i h.0 h.1 h.2)),
+  )
 
   placed_more : (x : Eat) (tail w : List ℕ) (p q : ℕ) → Stand input p w → p + length w ≡ q → (i j : ℕ) → Placed x tail p i j → Placed x (tail ++ w) q i j
   placed_more x tail w p q s e i j h =
       let n = length-append h.0 tail in
-      let m : p ≡ i + length (h.0 ++ tail) = omega (arith, n, h.3, h.4) in
-      (
+      let m : p ≡ i + length (h.0 ++ tail) = omega (arith, n, h.3, h.4) in (
         h.0,
         h.1,
         h.2,

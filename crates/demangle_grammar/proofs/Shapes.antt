@@ -1,4 +1,4 @@
--- What is known of the parts so far where a rule has been read, computed from the rule: enough to tell that each node made of
+-- What is known of the parts so far, computed from the rule that reads them: enough to tell that each node that is made of
 -- them is sound for the input. No row is named but the one that goes on from parts.
 use Rattle.std.specs.Prelude.{◌≡◌, ℕ, Bool, true, false, ◌&&◌, ◌||◌, not, List, [], ◌∷◌, ◌++◌, length, ◌==◌, codes}
 use Rattle.std.proofs.Common.{refl}
@@ -7,9 +7,9 @@ use Rattle.demangle_grammar.specs.Rule.{Class, Row, Eat, Cond, Make, Leaf, Rule}
 use Rattle.demangle_grammar.specs.Rows.{rule}
 use Rattle.demangle_grammar.specs.Sound.{is_substitutable}
 
--- The parts are none; some or none; one at least; or just a node of this type, of which it is known whether it has a field.
--- In each of these no place is a part, and no node of a component's kind but that one. Or one is: the place of such bytes, the only part or not, with these bytes read behind it;
--- or the place of such bytes and these.
+-- empty: there are no parts. any, some: any parts, or one at least, with no place among them. one: just a node of this type, and
+-- whether it has a field; it may be of a component's kind, which no other node is. placed: a place of bytes of this sort is among
+-- them, or is all, and these bytes were read behind it. longer: a place of bytes of this sort and then these is among them.
 pub data Known : Type 0 where
   empty any some : Known
   one : Tag → (filled : Bool) → Known
@@ -51,22 +51,24 @@ tells p Known.some = is_plain p && is_full p
 tells p _ = false
 
 -- ---- nodes
--- a node of such a type has a place of such bytes, and these behind them
 abbrev pub same_bytes : List ℕ → List ℕ → Bool
 same_bytes [] [] = true
 same_bytes (b ∷ bs) (c ∷ cs) = (b == c) && same_bytes bs cs
 same_bytes _ _ = false
 
+-- what may end a part of a resource's name
 abbrev pub is_tail : List ℕ → Bool
 is_tail tail = same_bytes tail [] || (same_bytes tail (codes "$S") || (same_bytes tail (codes "$_") || same_bytes tail (codes "$$")))
 
+-- a node of this type has a place of such bytes and then these
 abbrev pub holds_place : Tag → Eat → List ℕ → Bool
-holds_place Tag.Identifier (Eat.run Class.identifier) [] = true
+holds_place Tag.Identifier Eat.identifier [] = true
 holds_place Tag.CloneTypeIdentifier (Eat.run Class.clone) [] = true
 holds_place Tag.ResourceName (Eat.run Class.resource) tail = is_tail tail
 holds_place Tag.ExprPrimaryLiteral (Eat.upto b) [] = b == 69
 holds_place _ _ _ = false
 
+-- of such parts a node of this type may be made
 abbrev pub may_hold : Tag → Known → Bool
 may_hold t (Known.placed alone x tail) = holds_place t x []
 may_hold t (Known.longer x tail) = holds_place t x tail
@@ -85,6 +87,7 @@ has_result false q = true
 -- ---- leaves: what is known behind one, from what is known before it; behind one that always fails nothing is asked
 abbrev pub finds : Eat → Known → Known
 finds (Eat.run c) q = Known.placed (is_none q) (Eat.run c) []
+finds Eat.identifier q = Known.placed (is_none q) Eat.identifier []
 finds (Eat.upto b) q = Known.placed (is_none q) (Eat.upto b) []
 finds (Eat.byte c) q = wide q
 finds _ q = Known.some

@@ -1,15 +1,15 @@
 -- The laws on what is sound for an input.
-use Rattle.std.specs.Prelude.{◌≡◌, ◌||◌, ℕ, List, [], ◌∷◌}
-use Rattle.std.proofs.Common.{refl, subst, ap, ◌∙◌}
-use Rattle.demangle_core.specs.Table.{Entry, Table}
+use Rattle.std.specs.Prelude.{◌≡◌, ◌||◌, ℕ, ◌+◌, ◌-◌, List, [], ◌∷◌, length}
+use Rattle.std.proofs.Common.{refl, subst, ap, ◌∙◌, arith}
+use Rattle.std.proofs.lemmas.List.{take_all}
+use Rattle.demangle_core.specs.Table.{Entry, empty_table}
 use Rattle.demangle_core.specs.Core.{Core, Tag}
-use Rattle.demangle_grammar.specs.Rows.{rule}
 use Rattle.demangle_grammar.specs.Tree.{trees, Tree, nil, core}
-use Rattle.demangle_grammar.specs.Reading.{State, Answer, Yes, No, Deep, read_from}
-use Rattle.demangle_grammar.specs.Sound.{EachEntry, IsComponent, HasPlaces, HasResults, IsSoundTable, IsSoundFor}
-use Rattle.demangle_grammar.specs.Code.{Here, Reply, Found, Refused}
+use Rattle.demangle_grammar.specs.Reading.{Answer, Yes, No, Deep, read_from}
+use Rattle.demangle_grammar.specs.Sound.{EachEntry, StandsAt, IsComponent, HasPlaces, HasResults, IsSoundTable, IsSoundFor}
+use Rattle.demangle_grammar.specs.Code.{here, Reply, Found, Refused}
 use Rattle.demangle_grammar.specs.Seen.{replied}
-use Rattle.demangle_grammar.specs.Laws.{cored, ReadsSound, FindsSound}
+use Rattle.demangle_grammar.specs.Laws.{cored, ReadsSound, FindsSound, NameIsSound}
 use Rattle.demangle_grammar.proofs.Truth.{both_true}
 use Rattle.demangle_grammar.proofs.Readings.{derived}
 use Rattle.demangle_grammar.proofs.Back.{refers_back}
@@ -61,3 +61,14 @@ finds_sound input left r c h m x e at sound = by (read_from trees left r c (stat
         (subst (λ y. IsSoundFor input t.entries y) (ap (core_in x) q) (reads_sound input left r c (state_of h) t tree p at sound))
     by (No b k) p q = absurd (cc)
     by Deep p q = absurd (cc)
+
+-- from the front of an input, with no entries before it
+stands_whole : (input : List ℕ) → StandsAt input 0 input
+stands_whole input = (omega arith, take_all ((0 + length input) - 0) input (omega arith))
+
+no_entries : (input : List ℕ) → IsSoundTable input empty_table
+unfolding empty_table
+no_entries input = record { components = tt; refer_back = tt; places = tt; results = tt }
+
+pub name_is_sound : NameIsSound
+name_is_sound input left r c m x e = finds_sound input left r c (here (record { index = 0; left = input }) empty_table) m x e (stands_whole input) (no_entries input)

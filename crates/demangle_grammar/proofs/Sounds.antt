@@ -1,30 +1,30 @@
 -- What is read in an input, from entries that are sound for it, is sound for it.
-use Rattle.std.specs.Prelude.{◌≡◌, ℕ, ◌+◌, Bool, true, false, ◌&&◌, ◌||◌, not, List, [], ◌∷◌, ◌++◌, length, take, drop, nat_lt, pos, ℤ}
-use Rattle.std.proofs.Common.{refl, subst, sym, ap, ◌∙◌, arith}
+use Rattle.std.specs.Prelude.{◌≡◌, ℕ, ◌+◌, Bool, true, false, ◌&&◌, ◌||◌, not, List, [], ◌∷◌, ◌++◌, length, take, drop, nat_lt}
+use Rattle.std.proofs.Common.{refl, subst, sym, ap, arith}
 use Rattle.std.proofs.lemmas.List.{take-append-drop}
-use Rattle.demangle_core.specs.Table.{Entry, Table, count}
-use Rattle.demangle_core.specs.Core.{Core, end, place, number, ◌⊕◌, Tag, N, U}
+use Rattle.demangle_core.specs.Table.{Entry, count}
+use Rattle.demangle_core.specs.Core.{Core, end, place, ◌⊕◌, N, U}
 use Rattle.demangle_text.specs.Found.{Found, took, none}
 use Rattle.demangle_text.specs.Word.{starts, missing_word}
 use Rattle.demangle_text.specs.Kind.{Text, Bad}
 use Rattle.demangle_grammar.specs.Rule.{Class, Row, Eat, Cond, Given, Leaf, Rule}
 use Rattle.demangle_grammar.specs.Rows.{rule}
-use Rattle.demangle_grammar.specs.Tree.{trees, Tree, How, nil, core, component_of, template_entry, reshaped}
-use Rattle.demangle_grammar.specs.Reading.{State, Answer, Yes, stepped, found, answer, go_on, find, byte_at, holds, refusal, marks, given, ahead_by, prefix_entry, is_nestable, widened}
+use Rattle.demangle_grammar.specs.Tree.{trees, Tree, core, component_of, template_entry, reshaped}
+use Rattle.demangle_grammar.specs.Reading.{State, Yes, stepped, found, answer, go_on, find, byte_at, holds, refusal, marks, given, ahead_by, prefix_entry, is_nestable}
 use Rattle.demangle_grammar.specs.Fits.{IsOne}
 use Rattle.demangle_grammar.specs.Sound.{EachEntry, IsSomeRow}
 use Rattle.demangle_grammar.proofs.Truth.{both_true, implied}
 use Rattle.demangle_grammar.proofs.Numbers.{starts_so}
 use Rattle.demangle_grammar.proofs.Holds.{Holds}
-use Rattle.demangle_grammar.proofs.Derives.{Derives, narrowed, digits_of}
-use Rattle.demangle_grammar.proofs.Kept.{Keeps, keeps, steps, append-nil, behind', over', boxed', eats, of_entry}
+use Rattle.demangle_grammar.proofs.Derives.{Derives, digits_of}
+use Rattle.demangle_grammar.proofs.Kept.{Keeps, keeps, steps, append-nil, behind', boxed', eats, of_entry}
 use Rattle.demangle_grammar.proofs.Fit.{found_is, so_stands}
 use Rattle.demangle_grammar.proofs.Fit as fit
 use Rattle.demangle_grammar.proofs.Bridge.{plus_end}
 use Rattle.demangle_grammar.proofs.Stands.{Stand, stand_front, goes_on}
 use Rattle.demangle_grammar.proofs.Fields.{no_place, Fields, IsEntry, fields_both, fields_free, taken_fields, reference_fields, template_name_fields, template_entry_is, taken_some, reference_some}
-use Rattle.demangle_grammar.proofs.Shapes.{Known, is_plain, is_full, is_none, is_turn, is_row, wide, some_if, tells, finds, makes, put_behind, marks_one, reads_word, behind_leaf, leads, ends_row, rows_lead, turns_lead}
-use Rattle.demangle_grammar.proofs.PartsKnown.{no, Placed, Alone, Is, plain_fields, full_some, wide_is, moved_is, tells_is, behind_is, put_is, makes_is, word_is, marks_is}
+use Rattle.demangle_grammar.proofs.Shapes.{Known, is_plain, is_full, is_none, is_turn, is_row, wide, some_if, tells, finds, makes, put_behind, reads_word, behind_leaf, leads, ends_row, rows_lead, turns_lead}
+use Rattle.demangle_grammar.proofs.PartsKnown.{no, Placed, Alone, Is, plain_fields, full_some, wide_is, tells_is, behind_is, put_is, makes_is, word_is, marks_is}
 
 -- ---- entries
 each_last : (P : Core → Type 0) (es : List Entry) (x : Entry) → EachEntry P es → P x.tree → EachEntry P (es ++ x ∷ [])
@@ -70,6 +70,7 @@ module _ (input : List ℕ) where
       → Is input k (finds x q) (a ⊕ f)
   unfolding Some
   found_known (Eat.run c) p k q a f bs e h s m o = place_is (Eat.run c) p k q a f bs e h s m o o.2
+  found_known Eat.identifier p k q a f bs e h s m o = place_is Eat.identifier p k q a f bs e h s m o o.2
   found_known (Eat.upto b) p k q a f bs e h s m o = place_is (Eat.upto b) p k q a f bs e h s m o o.1
   found_known (Eat.byte c) p k q a f bs e h s m o = behind_is input false p k q a f e h (subst (Fields input no_place) (sym o.3) tt) (λ z. no z)
   found_known Eat.digit p k q a f bs e h s m o = field_is p k q a f e h (subst Some (sym o.3) (tt, tt))

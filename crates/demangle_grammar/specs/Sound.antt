@@ -1,5 +1,6 @@
 -- Sound nodes and tables: what printing asks of a node, its table and the input.
-use Rattle.std.specs.Prelude.{◌⊎◌, ◌≡◌, ℕ, ◌≤◌, ◌+◌, ◌-◌, ◌==◌, List, [], ◌∷◌, ◌++◌, length, take, drop, not, codes, Bool, true, false}
+use Rattle.std.specs.Prelude.{◌⊎◌, ◌≡◌, ℕ, ◌≤◌, ◌+◌, ◌-◌, ◌==◌, Bool, true, false, not}
+use Rattle.std.specs.Prelude.{List, [], ◌∷◌, ◌++◌, length, take, drop, codes}
 use Rattle.demangle_core.specs.Core.{Core, Tag, end, node, place, number, flag, chosen, ref, mark, Which, N, U}
 use Rattle.demangle_core.specs.Table.{Entry, Table}
 use Rattle.demangle_text.specs.Characters.{AreIdentifierChars}
@@ -18,7 +19,8 @@ StandsAt input i bs = (i + length bs ≤ length input) × (bytes_of input i (i +
 
 -- a part of a resource's name: some bytes that are no `$`, and then nothing, or `$` and one of `S`, `_`, `$`
 abbrev pub IsResource : List ℕ → Type 0
-IsResource bs = (front : List ℕ) × (tail : List ℕ) × (bs ≡ front ++ tail) × IsSome front × AllOf (is_in Class.resource) front
+IsResource bs = (front : List ℕ) × (tail : List ℕ) × (bs ≡ front ++ tail)
+    × IsSome front × AllOf (is_in Class.resource) front
     × ((tail ≡ []) ⊎ ((tail ≡ codes "$S") ⊎ ((tail ≡ codes "$_") ⊎ (tail ≡ codes "$$"))))
 
 -- The bytes of a place are those that the row of its node reads; no other node has a place.
@@ -40,6 +42,7 @@ HasPlaces input t (chosen k w n) = HasPlaces input t n
 HasPlaces input t (ref w k n) = HasPlaces input t n
 HasPlaces input t (mark i n) = HasPlaces input t n
 
+-- a row of one field at least
 abbrev pub IsSomeRow : Core → Type 0
 IsSomeRow end = ⊥
 IsSomeRow _ = Unit {0}
@@ -97,16 +100,16 @@ abbrev pub EachEntry : (Core → Type 0) → List Entry → Type 0
 EachEntry P [] = Unit {0}
 EachEntry P (x ∷ xs) = P x.tree × EachEntry P xs
 
--- A table is sound for an input where each entry is one node of a component's kind and refers to earlier entries alone, each
--- place in it lies in the input and holds bytes that its row reads, and each function type has a result.
+-- A table is sound for an input where each entry is one node of a component's kind and refers to earlier entries
+-- alone, each place in it lies in the input and holds bytes that its row reads, and each function type has a result.
 pub record IsSoundTable (input : List ℕ) (table : Table) : Type 0 where
   pub components : EachEntry IsComponent table
   pub refer_back : ReferBack [] table
   pub places : EachEntry (HasPlaces input Tag.Several) table
   pub results : EachEntry HasResults table
 
--- A node and a table are sound for an input where the table is, and the same holds of the node, whose references stand in
--- their handles and are to entries that are there.
+-- A node and a table are sound for an input where the table is, and the same holds of the node, whose references
+-- stand in their handles and are to entries that are there.
 pub record IsSoundFor (input : List ℕ) (table : Table) (tree : Core) : Type 0 where
   pub entries : IsSoundTable input table
   pub handles : HasHandles tree

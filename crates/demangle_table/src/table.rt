@@ -1,11 +1,13 @@
 //! The substitution table.
 
-ghost use Rattle.std.specs.Prelude.{◌≡◌, ◌+◌, ◌-◌, ◌<◌, map, IfOk, IfErr, OnOk, OnErr, IfSome, IfNone, IsTrue, Some, option_map, ◌↔◌};
+ghost use Rattle.std.specs.Prelude.{◌≡◌, ◌+◌, ◌-◌, ◌<◌, map, IfOk, IfErr, OnOk, OnErr, IfSome, IfNone, IsTrue, Some};
+ghost use Rattle.std.specs.Prelude.{option_map, ◌↔◌};
 ghost use Rattle.std.specs.Cmp.{on_equiv, on_per, partial_equiv_from_equiv};
 ghost use Rattle.std.specs.Slice.Iter.{iter_rest};
 ghost use Rattle.demangle_core.specs.Core.{N, U};
 ghost use Rattle.demangle_core.specs.Same.{same_tables_equiv};
-ghost use Rattle.demangle_core.specs.Table.{added, cut, empty_table, entry_at, listed, numbered, same_tables, size, sizes, type_behind};
+ghost use Rattle.demangle_core.specs.Table.{added, cut, empty_table, entry_at, listed, numbered, same_tables, size};
+ghost use Rattle.demangle_core.specs.Table.{sizes, type_behind};
 ghost use Rattle.demangle_leaf_nodes.specs.TreeLeaves.{tree_of_type_handle};
 ghost use Rattle.demangle_entries.specs.TreeEntries.{tree_of_substitutable, tree_of_type_node};
 ghost use Rattle.demangle_text.specs.declared.error.Error.TheVariants.{OutOfMemory};
@@ -45,22 +47,24 @@ impl SubstitutionTable {
         }
     }
 
-    /// Adds a numbered component, and answers its position. For want of memory the component comes back, and the table is
-    /// as before. The original's method of this name.
+    /// Adds a numbered component, and answers its position. For want of memory the component comes back, and the table
+    /// is as before. The original's method of this name.
     pub fn insert(&mut self, entity: Substitutable) -> Result<usize, Substitutable>
         ensures position { IfOk result (λ n. n ≡ size N (table_of self.old)) }
-        ensures inserted { OnOk result (table_of self.new ≡ added N (tree_of_substitutable entity) (table_of self.old)) }
+        ensures inserted { OnOk result (table_of self.new
+            ≡ added N (tree_of_substitutable entity) (table_of self.old)) }
         ensures unchanged { OnErr result (table_of self.new ≡ table_of self.old) }
         ensures handed_back { IfErr result (λ e. e ≡ entity) }
     {
         self.components.insert(entity)
     }
 
-    /// Adds a component that no number refers to, and answers its position among these. For want of memory the component
-    /// comes back, and the table is as before. The original's method of this name.
+    /// Adds a component that no number refers to, and answers its position among these. For want of memory the
+    /// component comes back, and the table is as before. The original's method of this name.
     pub fn insert_non_substitution(&mut self, entity: Substitutable) -> Result<usize, Substitutable>
         ensures position { IfOk result (λ n. n ≡ size U (table_of self.old)) }
-        ensures inserted { OnOk result (table_of self.new ≡ added U (tree_of_substitutable entity) (table_of self.old)) }
+        ensures inserted { OnOk result (table_of self.new
+            ≡ added U (tree_of_substitutable entity) (table_of self.old)) }
         ensures unchanged { OnErr result (table_of self.new ≡ table_of self.old) }
         ensures handed_back { IfErr result (λ e. e ≡ entity) }
     {
@@ -95,10 +99,11 @@ impl SubstitutionTable {
         self.components.numbered().iter()
     }
 
-    /// The type that a handle refers to; `None` exactly where it is no back reference to a type. The original's method of this
-    /// name.
+    /// The type that a handle refers to; `None` exactly where it is no back reference to a type. The original's method
+    /// of this name.
     pub fn get_type(&self, handle: &TypeHandle) -> Option<&TypeNode>
-        ensures { option_map (λ x. tree_of_type_node x.now) result ≡ type_behind (tree_of_type_handle handle.now) (table_of self.now) }
+        ensures { option_map (λ x. tree_of_type_node x.now) result
+            ≡ type_behind (tree_of_type_handle handle.now) (table_of self.now) }
     {
         match handle {
             TypeHandle::BackReference(idx) => match self.get(*idx) {
@@ -109,7 +114,8 @@ impl SubstitutionTable {
         }
     }
 
-    /// The component at `idx` of those that no number refers to, which must be there. The original's method of this name.
+    /// The component at `idx` of those that no number refers to, which must be there. The original's method of this
+    /// name.
     pub fn non_substitution(&self, idx: usize) -> &Substitutable
         requires { idx < size U (table_of self.now) }
         ensures { entry_at U idx (table_of self.now) ≡ Some (tree_of_substitutable result.now) }
@@ -117,8 +123,8 @@ impl SubstitutionTable {
         self.components.other(idx)
     }
 
-    /// The component at `idx` of those that no number refers to; `None` exactly where there is none. The original's method of
-    /// this name.
+    /// The component at `idx` of those that no number refers to; `None` exactly where there is none. The original's
+    /// method of this name.
     pub fn get_non_substitution(&self, idx: usize) -> Option<&Substitutable>
         ensures { option_map (λ x. tree_of_substitutable x.now) result ≡ entry_at U idx (table_of self.now) }
     {
@@ -141,8 +147,10 @@ impl SubstitutionTable {
 
     /// Takes the last numbered component out; `None` exactly where there is none. The original's method of this name.
     pub fn pop(&mut self) -> Option<Substitutable>
-        ensures last { IfSome result (λ x. entry_at N (size N (table_of self.old) - 1) (table_of self.old) ≡ Some (tree_of_substitutable x)) }
-        ensures shorter { IfSome result (λ _. table_of self.new ≡ cut (size N (table_of self.old) - 1, size U (table_of self.old)) (table_of self.old)) }
+        ensures last { IfSome result (λ x. entry_at N (size N (table_of self.old) - 1) (table_of self.old)
+            ≡ Some (tree_of_substitutable x)) }
+        ensures shorter { IfSome result (λ _. table_of self.new
+            ≡ cut (size N (table_of self.old) - 1, size U (table_of self.old)) (table_of self.old)) }
         ensures some { IfSome result (λ _. 0 < size N (table_of self.old)) }
         ensures none { IfNone result (size N (table_of self.old) ≡ 0) }
         ensures unchanged { IfNone result (table_of self.new ≡ table_of self.old) }
@@ -150,8 +158,8 @@ impl SubstitutionTable {
         self.components.pop()
     }
 
-    /// A copy whose components `copier` makes, in the same order of insertion over both lists. `OutOfMemory` is its only
-    /// refusal. `Clone` in the original.
+    /// A copy whose components `copier` makes, in the same order of insertion over both lists. `OutOfMemory` is its
+    /// only refusal. `Clone` in the original.
     pub fn copy_with<C: CopyComponent<Substitutable>>(
         &self,
         alloc: Global,
@@ -165,8 +173,8 @@ impl SubstitutionTable {
         })
     }
 
-    /// Cuts both lists to these lengths: what was inserted after them is gone. A length above the present one cuts nothing. An
-    /// addition to the original.
+    /// Cuts both lists to these lengths: what was inserted after them is gone. A length above the present one cuts
+    /// nothing. An addition to the original.
     pub fn cut_back(&mut self, lengths: (usize, usize))
         ensures { table_of self.new ≡ cut lengths (table_of self.old) }
     {
