@@ -1,13 +1,15 @@
 """Chooses few readings of many that notice all edits of the data which any of them notices.
 
 A subject has `edits`; `candidates(edit)`, the numbers of the readings that may notice it, those to be preferred first;
-`edited(edit)`, a context in which it is made; `differs(k)`, whether reading k is another there; and `cost(k)`.
+`edited(edit)`, a context in which it is made; `differs(k)`, whether reading k is another there, or None where that wasn't
+seen in the time that is of use; and `cost(k)`.
 """
 import collections
 import multiprocessing
 import sys
 
 ENOUGH = 16  # how many readings that notice an edit are looked for
+UNSEEN = 40  # after so many readings of which it wasn't seen no more are tried
 TWICE = 2  # how many of the chosen ones are to notice an edit, where so many do
 
 
@@ -31,13 +33,15 @@ class Search:
 
 def noticing(task):
     number, among, enough = task
-    found = []
+    found, unseen = [], 0
     with SUBJECT.edited(SUBJECT.edits[number]):
         for k in among:
-            if SUBJECT.differs(k):
+            differs = SUBJECT.differs(k)
+            if differs:
                 found.append(k)
-                if len(found) == enough:
-                    break
+            unseen += differs is None
+            if len(found) == enough or unseen == UNSEEN:
+                break
     return number, found
 
 
@@ -99,9 +103,8 @@ def needed(chosen, given, noticed, cost):
     return kept
 
 
-def chosen(subject, search, given):
-    """The readings that are enough beside the given ones."""
-    first = first_noticing(subject, search)
+def chosen(subject, search, given, first):
+    """The readings that are enough beside the given ones, of those that first notice an edit."""
     picked = cover(first, given, subject.cost)
     noticed = all_noticing(subject, search, picked)
     return needed(picked, given, noticed, subject.cost) - set(given)

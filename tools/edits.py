@@ -30,29 +30,31 @@ COLUMNS = ("made", "committed", "twice", "others", "none")
 
 
 def choose(subject, search):
-    subject.save(choice.chosen(subject, search, subject.numbers_of(subject.by_hand)))
+    """Gives back what it found to notice each edit."""
+    first = choice.first_noticing(subject, search)
+    subject.save(choice.chosen(subject, search, subject.numbers_of(subject.by_hand), first))
+    return first
 
 
-def noticing(subject, search):
-    """For each edit which of the committed readings notice it; where none does, another input or none."""
-    committed = subject.numbers_of(subject.committed())
-    by_committed = choice.all_noticing(subject, search, committed)
-    missed = [number for number, ks in by_committed.items() if not ks]
-    others = {number: [k for k in subject.candidates(subject.edits[number]) if k not in committed] for number in missed}
-    by_others = search.noticing([(number, ks, 1) for number, ks in others.items()])
-    return [(by_committed[number], by_others.get(number, [])) for number in range(len(subject.edits))]
+def noticing(subject, search, first):
+    """For each edit which of the committed readings notice it; where none does, other inputs that do."""
+    by_committed = choice.all_noticing(subject, search, subject.numbers_of(subject.committed()))
+    if first is None:
+        missed = [number for number, ks in by_committed.items() if not ks]
+        first = search.noticing([(number, subject.candidates(subject.edits[number]), 1) for number in missed])
+    return [(ks, [] if ks else first[number]) for number, ks in sorted(by_committed.items())]
 
 
-def check(subject, search, report):
+def check(noticed, subject, report):
     """The table, and how many edits are noticed by inputs that aren't committed alone."""
     table = collections.defaultdict(collections.Counter)
-    for edit, (committed, others) in zip(subject.edits, noticing(subject, search)):
-        noticed = "committed" if committed else "others" if others else "none"
+    for edit, (committed, others) in zip(subject.edits, noticed):
+        by = "committed" if committed else "others" if others else "none"
         for kind in (edit.kind, "all"):
-            table[kind].update(["made", noticed] + ["twice"] * (len(committed) > 1))
+            table[kind].update(["made", by] + ["twice"] * (len(committed) > 1))
         if report:
             first = [subject.name(k) for k in (committed + others)[:1]]
-            line = {"kind": edit.kind, "where": edit.definition, "edit": str(edit), "noticed by": noticed,
+            line = {"kind": edit.kind, "where": edit.definition, "edit": str(edit), "noticed by": by,
                     "times": len(committed), "first": first}
             report.write(json.dumps(line, ensure_ascii=False) + "\n")
     print("%-26s" % "kind", *("%9s" % column for column in COLUMNS))
@@ -74,12 +76,11 @@ def main():
     for line in subject.wrong:
         print("not as expected:", json.dumps(line, ensure_ascii=False))
     search = choice.Search(subject, given.processes)
-    if given.action == "choose":
-        choose(subject, search)
+    first = choose(subject, search) if given.action == "choose" else None
     stale = subject.stale()
     for case in stale:
         print("not what the rows read:", *case.input)
-    left = check(subject, search, given.report)
+    left = check(noticing(subject, search, first), subject, given.report)
     sys.exit(1 if left or stale or subject.wrong else 0)
 
 

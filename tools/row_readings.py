@@ -75,9 +75,9 @@ class RowReadings:
         x = self.inputs[k]
         base = self.base[x]
         try:
-            reading = self.rows.read(*x, fuel=1000 + 8 * base.entered)
+            reading = self.rows.read(*x, fuel=300 + 4 * base.entered)
         except Spent:
-            return False
+            return None
         return reading[:3] != base[:3]
 
     def cost(self, k):
