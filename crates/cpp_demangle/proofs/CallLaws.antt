@@ -1,12 +1,12 @@
 -- Laws on the parts of a plain function's name, in the words of the code that reads them.
-use Rattle.std.proofs.Common.{cond, IsTrue, ◌↔◌, zero, suc, append_assoc, append-nil, codes, ◌≡◌, ℕ, ◌+◌, ◌-◌, ◌<◌, ◌≤◌, Bool, true, false, eqb, nat_lt, ◌&&◌, List, [], ◌∷◌, ◌++◌, length, drop, refl, sym, ap, ◌∙◌, arith, rules, tests, Ok, Err, Result, Some, None}
+use Rattle.std.proofs.Common.{cond, IsTrue, ◌↔◌, append_assoc, append-nil, codes, ◌≡◌, ℕ, ◌+◌, ◌-◌, ◌<◌, ◌≤◌, Bool, true, false, eqb, nat_lt, List, [], ◌∷◌, ◌++◌, length, drop, refl, sym, ap, ◌∙◌, arith, rules, tests, Ok, Err, Result, Some, None}
 use Rattle.std.specs.Prelude.{Option}
 use Rattle.demangle_text.specs.Kind.{Kind}
 use Rattle.demangle_text.specs.Spot.{Spot, skip}
 use Rattle.demangle_text.specs.Found.{Found, took, none, and_rest, placed}
 use Rattle.demangle_text.specs.Word.{starts, word_at}
 use Rattle.demangle_text.specs.Number.{natural_at, natural_from}
-use Rattle.demangle_vocab.specs.Table.{text_at, word_read, table_from}
+use Rattle.demangle_vocab.specs.WordTable.{text_at, word_read, table_from}
 use Rattle.demangle_vocab.specs.Builtins.{builtins, builtin_words}
 use Rattle.demangle_grammar.specs.CallText.{call_text, call_of, joined, further_types, type_texts, call_with, source_name, behind_number, identifier_of, is_identifier, letter_text}
 use Rattle.cpp_demangle.specs.Letter.{IsLetter}

@@ -3,7 +3,7 @@
 ghost use Rattle.std.specs.Prelude.{◌≡◌, Some, None, MatchOption, IfOk, string_bytes, if◌then◌else◌};
 ghost use Rattle.demangle_text.specs.Spot.{spot};
 ghost use Rattle.cpp_demangle.specs.Letter.{IsLetter};
-ghost use Rattle.demangle_vocab.specs.Table.{word_read};
+ghost use Rattle.demangle_vocab.specs.WordTable.{word_read};
 ghost use Rattle.demangle_vocab.specs.Builtins.{builtin_words};
 ghost use Rattle.demangle_grammar.specs.CallText.{call_text, call_with, identifier_of, is_identifier, joined, letter_text, further_types, type_texts, source_name};
 

@@ -13,7 +13,7 @@ use std::process::Abort;
 use std::test::Fail;
 
 /// Inputs, and what is written for them.
-const RUNS: [(&[u8], &[u8]); 22] = [
+const RUNS: [(&[u8], &[u8]); 23] = [
     (b"_Z3fooib\nhello\n", b"foo(int, bool)\nhello\n"),
     (b"foo\n_Z1fv\r\n_Z", b"foo\nf()\r\n_Z"),
     (b"_Z1fvv\n_Z3foo\n", b"f(void, void)\n_Z3foo\n"),
@@ -33,8 +33,9 @@ const RUNS: [(&[u8], &[u8]); 22] = [
     (b"_Z1fv\0\n\0\n_Z1fv\n", b"_Z1fv\0\n\0\nf()\n"),
     (
         b"\xff\xfe\n_Z2\xc3\xa9v\n_Z1fi\n",
-        b"\xff\xfe\n_Z2\xc3\xa9v\nf(int)\n",
+        b"\xff\xfe\n\xc3\xa9()\nf(int)\n",
     ),
+    (b"_Z1\xc3v\n_Z2f\xc3v\n", b"_Z1\xc3v\n_Z2f\xc3v\n"),
     (b"\x80\r\n_Z1fi\r\n", b"\x80\r\nf(int)\r\n"),
     (b"_\n_Z\n__Z1fv\n_Z1fDd\n", b"_\n_Z\n__Z1fv\n_Z1fDd\n"),
     (b"_Z8_GLOBAL_v\n_Z1fPi\n", b"_Z8_GLOBAL_v\n_Z1fPi\n"),

@@ -130,7 +130,8 @@ impl TryClone for ExceptionSpec {
 }
 
 fn clone_optional_spec(alloc: Global, spec: &Option<ExceptionSpec>) -> Result<Option<ExceptionSpec>>
-    ensures equal { IfOk result (λ r. tree_of_option tree_of_exception_spec r ≡ tree_of_option tree_of_exception_spec spec.now) }
+    ensures equal { IfOk result (λ r. tree_of_option tree_of_exception_spec r
+        ≡ tree_of_option tree_of_exception_spec spec.now) }
     ensures refused { IfErr result (λ e. e ≡ OutOfMemory) }
 {
     match spec {

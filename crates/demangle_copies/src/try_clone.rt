@@ -6,8 +6,8 @@ ghost use Rattle.demangle_text.specs.declared.error.Error.TheVariants.{OutOfMemo
 use demangle_text::Result;
 use std::alloc::Global;
 
-/// A node or a table that can be copied. In the original these types derive `Clone`; here a copy takes memory, so it may
-/// be refused.
+/// A node or a table that can be copied. In the original these types derive `Clone`; here a copy takes memory, so it
+/// may be refused.
 pub trait TryClone: Sized {
     /// Whether the second is a copy of the first: the same tree, or the same table.
     ghost IsCopy: { Self → Self → Type 0 };

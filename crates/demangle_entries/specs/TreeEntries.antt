@@ -20,7 +20,12 @@ use Rattle.demangle_entries.specs.declared.entries.UnresolvedType.{UnresolvedTyp
 use Rattle.demangle_entries.specs.declared.entries.UnresolvedType.TheVariants as of_unresolved_type
 use Rattle.demangle_entries.specs.declared.entries.Substitutable.{Substitutable}
 use Rattle.demangle_entries.specs.declared.entries.Substitutable.TheVariants as of_substitutable
-use Rattle.demangle_leaf_nodes.specs.TreeLeaves.{tree_of_option, tree_of_ref_qualifier, tree_of_template_param, tree_of_source_name, tree_of_data_member_prefix, tree_of_cv_qualifiers, tree_of_template_template_param, tree_of_prefix_handle, tree_of_template_template_param_handle, tree_of_type_handle, tree_of_bare_function_type, tree_of_pointer_to_member_type, tree_of_unqualified_name, tree_of_unscoped_template_name}
+use Rattle.demangle_leaf_nodes.specs.TreeLeaves.{tree_of_option, tree_of_ref_qualifier, tree_of_template_param}
+use Rattle.demangle_leaf_nodes.specs.TreeLeaves.{tree_of_source_name, tree_of_data_member_prefix, tree_of_cv_qualifiers}
+use Rattle.demangle_leaf_nodes.specs.TreeLeaves.{tree_of_template_template_param, tree_of_prefix_handle}
+use Rattle.demangle_leaf_nodes.specs.TreeLeaves.{tree_of_template_template_param_handle, tree_of_type_handle}
+use Rattle.demangle_leaf_nodes.specs.TreeLeaves.{tree_of_bare_function_type, tree_of_pointer_to_member_type}
+use Rattle.demangle_leaf_nodes.specs.TreeLeaves.{tree_of_unqualified_name, tree_of_unscoped_template_name}
 use Rattle.demangle_nodes.specs.TreeNodes.{tree_of_name, tree_of_template_args, tree_of_expression}
 
 abbrev pub tag_of_decltype : Decltype → Tag
@@ -107,7 +112,9 @@ abbrev pub tag_of_function_type : FunctionType → Tag
 tag_of_function_type _ = Tag.FunctionType
 
 abbrev pub parts_of_function_type : FunctionType → Core
-parts_of_function_type x = tree_of_cv_qualifiers x.cv_qualifiers ⊕ (tree_of_option tree_of_exception_spec x.exception_spec ⊕ (flag x.transaction_safe (flag x.extern_c (tree_of_bare_function_type x.bare ⊕ (tree_of_option tree_of_ref_qualifier x.ref_qualifier)))))
+parts_of_function_type x = tree_of_cv_qualifiers x.cv_qualifiers ⊕
+    (tree_of_option tree_of_exception_spec x.exception_spec ⊕ (flag x.transaction_safe (flag x.extern_c
+    (tree_of_bare_function_type x.bare ⊕ (tree_of_option tree_of_ref_qualifier x.ref_qualifier)))))
 
 abbrev pub tree_of_function_type : FunctionType → Core
 tree_of_function_type x = node (tag_of_function_type x) (parts_of_function_type x) end
@@ -137,10 +144,12 @@ parts_of_type_node (of_type_node.Array a) = tree_of_array_type a
 parts_of_type_node (of_type_node.Vector a) = tree_of_vector_type a
 parts_of_type_node (of_type_node.PointerToMember a) = tree_of_pointer_to_member_type a
 parts_of_type_node (of_type_node.TemplateParam a) = tree_of_template_param a
-parts_of_type_node (of_type_node.TemplateTemplate a b) = tree_of_template_template_param_handle a ⊕ (tree_of_template_args b)
+parts_of_type_node (of_type_node.TemplateTemplate a b) = tree_of_template_template_param_handle a ⊕
+    (tree_of_template_args b)
 parts_of_type_node (of_type_node.Decltype a) = tree_of_decltype a
 parts_of_type_node (of_type_node.Qualified a b) = tree_of_cv_qualifiers a ⊕ (tree_of_type_handle b)
-parts_of_type_node (of_type_node.VendorExtension a b c) = tree_of_source_name a ⊕ (tree_of_option tree_of_template_args b ⊕ (tree_of_type_handle c))
+parts_of_type_node (of_type_node.VendorExtension a b c) = tree_of_source_name a ⊕
+    (tree_of_option tree_of_template_args b ⊕ (tree_of_type_handle c))
 parts_of_type_node (of_type_node.PointerTo a) = tree_of_type_handle a
 parts_of_type_node (of_type_node.LvalueRef a) = tree_of_type_handle a
 parts_of_type_node (of_type_node.RvalueRef a) = tree_of_type_handle a
@@ -156,7 +165,8 @@ tag_of_unresolved_type (of_unresolved_type.Template _ _) = Tag.UnresolvedTypeTem
 tag_of_unresolved_type (of_unresolved_type.Decltype _) = Tag.UnresolvedTypeDecltype
 
 abbrev pub parts_of_unresolved_type : UnresolvedType → Core
-parts_of_unresolved_type (of_unresolved_type.Template a b) = tree_of_template_param a ⊕ (tree_of_option tree_of_template_args b)
+parts_of_unresolved_type (of_unresolved_type.Template a b) = tree_of_template_param a ⊕
+    (tree_of_option tree_of_template_args b)
 parts_of_unresolved_type (of_unresolved_type.Decltype a) = tree_of_decltype a
 
 abbrev pub tree_of_unresolved_type : UnresolvedType → Core

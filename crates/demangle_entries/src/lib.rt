@@ -1,7 +1,8 @@
-//! The node types above names and expressions: types, prefixes, the entries of the substitution table; the plain tree of
-//! each, and their equality. It exports all node types.
+//! The node types above names and expressions: types, prefixes, the entries of the substitution table; the plain tree
+//! of each, and their equality. It exports all node types.
 #![tactic(auto)]
 
+mod component;
 mod entries;
 mod same_entries;
 

@@ -1,5 +1,5 @@
--- The first bytes of each row, and how deep it goes where the next byte is another. Written by tools/conformance.py.
-use Rattle.std.specs.Prelude.{true, false, ◌∷◌, []}
+-- The first bytes of each row, and how deep it goes where the next byte is another. Written by tools/write_readings.py.
+use Rattle.std.specs.Prelude.{true, false, [], ◌∷◌}
 use Rattle.std.proofs.Common.{refl}
 use Rattle.demangle_core.specs.Core.{Tag}
 use Rattle.demangle_grammar.specs.Rule.{Row}

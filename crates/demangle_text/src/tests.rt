@@ -1,6 +1,8 @@
 //! What no clause says: answers that come from outside, and that each call is met by some input.
 
-use crate::{Error, IndexStr, ParseOptions, Result, consume, parse_number, parse_unsigned};
+use crate::{
+    Error, IndexStr, ParseOptions, Result, consume, identifier_len, parse_number, parse_unsigned,
+};
 use std::test::Fail;
 
 #[test]
@@ -72,6 +74,37 @@ fn words_are_consumed(rt: HostRuntime) -> std::result::Result<(), Fail> {
         Err(Error::UnexpectedText)
     );
     Ok(())
+}
+
+#[test]
+fn an_identifier_ends_before_what_is_no_character(rt: HostRuntime) {
+    let cases: [(&[u8], usize); 22] = [
+        (b"", 0),
+        (b"-", 0),
+        (b"a9Z$_.-b", 6),
+        (b"\x7f", 0),
+        (b"\x80", 0),
+        (b"\xc3", 0),
+        (b"\xc1\xbf", 0),
+        (b"\xc2\x80", 2),
+        (b"\xdf\xbf\xdf", 2),
+        (b"a\xc3\xa9v(", 4),
+        (b"\xe0\x9f\xbf", 0),
+        (b"\xe0\xa0\x80", 3),
+        (b"\xe2\x82", 0),
+        (b"\xed\x9f\xbf", 3),
+        (b"\xed\xa0\x80", 0),
+        (b"\xee\x80\x80\xef\xbf\xbf", 6),
+        (b"\xf0\x8f\xbf\xbf", 0),
+        (b"\xf0\x90\x80\x80", 4),
+        (b"\xf3\xbf\xbf", 0),
+        (b"\xf4\x8f\xbf\xbf", 4),
+        (b"\xf4\x90\x80\x80", 0),
+        (b"\xf5\x80\x80\x80", 0),
+    ];
+    for (bytes, len) in cases {
+        assert_eq!(rt; identifier_len(bytes), len, "at {bytes:?}");
+    }
 }
 
 #[test]

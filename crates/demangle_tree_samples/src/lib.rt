@@ -1,5 +1,5 @@
-//! Nodes and tables that the tests of the syntax tree are made of. They promise nothing, so a test knows of them what it
-//! finds when it runs.
+//! Nodes and tables that the tests of the syntax tree are made of. They promise nothing, so a test knows of them what
+//! it finds when it runs.
 #![tactic(auto)]
 
 mod nodes;

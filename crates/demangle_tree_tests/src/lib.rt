@@ -1,5 +1,5 @@
-//! The node types, the substitution table and the look-ups through it at worked examples: each call with ample memory, and
-//! a long chain of components.
+//! The node types, the substitution table and the look-ups through it at worked examples: each call with ample memory,
+//! and a long chain of components.
 #![tactic(auto)]
 
 #[cfg(test)]
