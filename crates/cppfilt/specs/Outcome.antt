@@ -4,7 +4,7 @@ use Rattle.std.specs.Io.KnownBytes.{Appends, Consumes, IsAtEnd}
 use Rattle.demangle_grammar.specs.Lines.{due, due_so_far}
 use Rattle.cppfilt.specs.Causes.{Rose}
 use Rattle.cppfilt.specs.Moves.{Moves, Begins}
-use Rattle.cppfilt.specs.Owed.{ahead, Kept}
+use Rattle.cppfilt.specs.Owed.{ahead, Kept, block_limit}
 use Rattle.cppfilt.specs.declared.status.Status.{Status}
 use Rattle.cppfilt.specs.declared.status.Status.TheVariants.{Done, Usage, ReadFault, WriteFault, InputTooLong, OutOfMemory}
 
@@ -15,17 +15,13 @@ OfTaken None left1 P = ⊤
 OfTaken (Some input) None P = ⊥
 OfTaken (Some input) (Some rest) P = (taken : List ℕ) × (input ≡ taken ++ rest) × P taken
 
--- no more bytes are taken before those due for the others are written
-abbrev pub block_limit : ℕ
-block_limit = 65536
-
 -- The sink was given what is due so far for all the bytes but a last block, and maybe more.
-record pub KeepsUp (out0 out1 : Option (List ℕ)) (taken : List ℕ) : Type 0 where
+pub record KeepsUp (out0 out1 : Option (List ℕ)) (taken : List ℕ) : Type 0 where
   pub seen : List ℕ
-  pub block : List ℕ
+  pub last : List ℕ
   pub more : List ℕ
-  pub parts : taken ≡ seen ++ block
-  pub small : length block ≤ block_limit
+  pub parts : taken ≡ seen ++ last
+  pub small : length last ≤ block_limit
   pub appends : Appends out0 out1 (due_so_far seen ++ more)
 
 -- ---- how a run ended
@@ -38,7 +34,8 @@ Faults _ r0 r1 w0 w1 = (r1 ≡ r0) × (w1 ≡ w0)
 
 -- how many bytes were taken, by the source's count and where it tells them: one more than the limit, or at most so many
 abbrev pub Amount : Status → (limit taken0 taken1 : ℕ) → (left0 left1 : Option (List ℕ)) → Type 0
-Amount InputTooLong limit t0 t1 left0 left1 = ((t0 + limit < t1) ⊎ (2 ^ 64 - 1 ≤ t1)) × OfTaken left0 left1 (λ taken. length taken ≡ limit + 1)
+Amount InputTooLong limit t0 t1 left0 left1 =
+    ((t0 + limit < t1) ⊎ (2 ^ 64 - 1 ≤ t1)) × (t1 ≤ t0 + limit + 1) × OfTaken left0 left1 (λ taken. length taken ≡ limit + 1)
 Amount _ limit t0 t1 left0 left1 = (t1 ≤ t0 + limit) × OfTaken left0 left1 (λ taken. length taken ≤ limit)
 
 -- what was written, where the status tells it
@@ -48,7 +45,7 @@ Written ReadFault limit left0 left1 out0 out1 = OfTaken left0 left1 (λ taken. A
 Written InputTooLong limit left0 left1 out0 out1 = IfSome left0 (λ input. Appends out0 out1 (due_so_far (take limit input)))
 Written _ limit left0 left1 out0 out1 = ⊤
 
-record pub Stopped (status : Status) (limit read0 read1 write0 write1 taken0 taken1 : ℕ) (left0 left1 out0 out1 : Option (List ℕ)) : Type 0 where
+pub record Stopped (status : Status) (limit read0 read1 write0 write1 taken0 taken1 : ℕ) (left0 left1 out0 out1 : Option (List ℕ)) : Type 0 where
   pub faults : Faults status read0 read1 write0 write1
   pub amount : Amount status limit taken0 taken1 left0 left1
   pub front : IfSome left0 (λ input. Begins out0 out1 (due input))
@@ -57,7 +54,7 @@ record pub Stopped (status : Status) (limit read0 read1 write0 write1 taken0 tak
 
 -- ---- how a run goes on
 -- how it goes, with so many bytes taken, and with nothing due but for the bytes that are kept
-record pub Going (limit read0 read1 write0 write1 taken0 taken1 : ℕ) (left0 left1 out0 out1 : Option (List ℕ)) (gathered : List ℕ) (passing : Bool) (held : List ℕ) (count : ℕ) : Type 0 where
+pub record Going (limit read0 read1 write0 write1 taken0 taken1 : ℕ) (left0 left1 out0 out1 : Option (List ℕ)) (gathered : List ℕ) (passing : Bool) (held : List ℕ) (count : ℕ) : Type 0 where
   pub reads : read1 ≡ read0
   pub writes : write1 ≡ write0
   pub at_least : (taken1 ≡ taken0 + count) ⊎ (2 ^ 64 - 1 ≤ taken1)

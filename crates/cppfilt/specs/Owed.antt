@@ -21,6 +21,10 @@ completed false held line = shown_line (held ++ line)
 abbrev pub ahead : (gathered : List ℕ) → (passing : Bool) → (held : List ℕ) → List ℕ → List ℕ
 ahead gathered passing held bytes = gathered ++ owed passing held bytes
 
+-- no more bytes are taken before those due for the others are written
+abbrev pub block_limit : ℕ
+block_limit = 65536
+
 -- what is kept of the bytes that have come: those of the line that isn't complete, or that they are too many for it to be asked
 abbrev pub Kept : (passing : Bool) → (held seen : List ℕ) → Type 0
 Kept true held seen = line_limit + 2 < length (unfinished seen)

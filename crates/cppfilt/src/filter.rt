@@ -4,8 +4,8 @@ ghost use Rattle.std.specs.Prelude.{◌≡◌, ◌+◌, ◌<◌, ◌≤◌, [], 
 ghost use Rattle.std.specs.Io.KnownBytes.{ReadConsumes};
 ghost use Rattle.demangle_grammar.specs.Lines.{before_feed};
 ghost use Rattle.cppfilt.specs.Causes.{SourceCause, TakenCount};
-ghost use Rattle.cppfilt.specs.Outcome.{Stopped, Finished, block_limit};
-ghost use Rattle.cppfilt.specs.Owed.{ahead};
+ghost use Rattle.cppfilt.specs.Outcome.{Stopped, Finished};
+ghost use Rattle.cppfilt.specs.Owed.{ahead, block_limit};
 ghost use Rattle.cppfilt.specs.Statuses.{refusal_status};
 
 use crate::ends::{Failed, Sink, Source};

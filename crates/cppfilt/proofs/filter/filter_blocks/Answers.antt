@@ -1,7 +1,6 @@
-use Rattle.std.proofs.Common.{◌≡◌, ◌+◌, ◌<◌, ◌≤◌, length, take, rules, arith}
+use Rattle.std.proofs.Common.{◌≡◌, ◌+◌, ◌<◌, ◌≤◌, [], length, take, rules, arith}
 use Rattle.std.proofs.lemmas.List.{length-take-le}
-use Rattle.cppfilt.specs.Owed.{ahead}
-use Rattle.cppfilt.proofs.RunLaws.{going-more, stop-empty, stop-write}
+use Rattle.cppfilt.proofs.RunLaws.{going-start, going-more, stop-read, stop-empty, stop-write, stop-long}
 use Rattle.cppfilt.proofs.filter.filter_blocks.Goals as goal
 
 -- the end of the input
@@ -22,18 +21,24 @@ returns-in-Ok-eq0-read_front g c =
 pub returns-in-Err-take_block : goal.returns-in-Err-take_block
 returns-in-Err-take_block g c =
     let within : c.loop-taken.taken + c.in-Ok.count ≤ c.args.limit = search rules in
+    let small : c.in-Ok.count ≤ length c.read_front.new.block = search rules in
+    let size = length-take-le c.in-Ok.count c.read_front.new.block small in
+    let block : c.in-Ok.count ≤ 65536 = (let k = c.in-Ok.ensures.kept in let h = c.loop-taken.invariant.3 in omega arith) in
+    let refused = c.in-Err-take_block.ensures.gives in
     rw c.status_of.ensures
-    (stop-write c.in-Err-take_block.fault c.in-Ok.count _ _ _ _ _ (take c.in-Ok.count c.read_front.new.block) c.loop-taken.invariant.0 c.in-Ok.ensures.cause c.in-Ok.ensures.count within c.in-Ok.ensures.bytes.0
-    c.in-Err-take_block.ensures.cause c.in-Err-take_block.ensures.front)
+    (stop-write c.in-Err-take_block.fault c.in-Ok.count _ _ _ _ _ (take c.in-Ok.count c.read_front.new.block) c.loop-taken.invariant.0 c.in-Ok.ensures.cause c.in-Ok.ensures.count size block within
+    c.in-Ok.ensures.bytes.0 (refused []).0 (λ more. (refused more).1))
 
 -- one more block
 pub loop-taken-preserved : goal.loop-taken-preserved
 loop-taken-preserved g c =
     let then = c.take_block.new.self in
     let within : c.loop-taken.taken + c.in-Ok.count ≤ c.args.limit = search rules in
-    let small : c.in-Ok.count ≤ length c.read_front.new.block = search rules in (
-      going-more c.in-Ok.count _ _ _ _ _ (λ more. ahead then.pending.items then.passing then.held.items more) (take c.in-Ok.count c.read_front.new.block) c.loop-taken.invariant.0 c.in-Ok.ensures.cause
-          c.in_default.ensures.cause c.in-Ok.ensures.count (length-take-le c.in-Ok.count c.read_front.new.block small) c.in-Ok.ensures.bytes.0 c.in_default.ensures.all within,
+    let small : c.in-Ok.count ≤ length c.read_front.new.block = search rules in
+    let gave = c.in_default.ensures.gives in (
+      going-more c.in-Ok.count _ _ _ _ _ then.pending.items then.passing then.held.items (take c.in-Ok.count c.read_front.new.block) c.loop-taken.invariant.0 c.in-Ok.ensures.cause (gave []).0
+          c.in-Ok.ensures.count (length-take-le c.in-Ok.count c.read_front.new.block small) c.in-Ok.ensures.bytes.0 (λ more. (gave more).1) c.in_default.ensures.written c.in_default.ensures.kept within,
       c.in_default.ensures.free,
+      search rules,
       search rules,
     )
