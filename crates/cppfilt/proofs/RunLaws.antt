@@ -79,7 +79,7 @@ going-more {limit} {r0} {r} {w0} {w} {t0} {t} {left0} {left} {out0} {out} {gathe
 
 -- ---- what was written
 -- what holds of the bytes that were taken
-of-taken : (left0 left1 : Bytes) (P : List ℕ → Type 0) (bytes : List ℕ) → Consumes left0 left1 bytes → P bytes → OfTaken left0 left1 P
+pub of-taken : (left0 left1 : Bytes) (P : List ℕ → Type 0) (bytes : List ℕ) → Consumes left0 left1 bytes → P bytes → OfTaken left0 left1 P
 of-taken None left1 P bytes c p = tt
 of-taken (Some x) None P bytes c p = absurd c
 of-taken (Some x) (Some y) P bytes c p = (bytes, c, p)
@@ -262,6 +262,9 @@ nothing-front (Some x) out = begins-none out (due x)
 
 pub nothing-keeps_up : (left out : Bytes) → OfTaken left left (KeepsUp out out)
 nothing-keeps_up left out = of-taken left left (KeepsUp out out) [] (Consumes-nil left) (keeps_up-all out out [] (rw so_far-nil (Appends-nil out)))
+
+pub nothing-short : (left : Bytes) (P : Type 0) (limit : ℕ) → OfTaken left left (λ taken. limit < length taken → P)
+nothing-short left P limit = of-taken left left (λ taken. limit < length taken → P) [] (Consumes-nil left) (λ long. absurd (omega arith))
 
 pub stop-memory : (limit r w t : ℕ) (left out : Bytes) → Stopped OutOfMemory limit r r w w t t left left out out
 stop-memory limit r w t left out = record {

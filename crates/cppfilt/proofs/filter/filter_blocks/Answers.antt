@@ -1,7 +1,27 @@
-use Rattle.std.proofs.Common.{◌≡◌, ◌+◌, ◌<◌, ◌≤◌, [], length, take, rules, arith}
+use Rattle.std.proofs.Common.{◌≡◌, ◌+◌, ◌<◌, ◌≤◌, [], length, take, refl, rules, arith}
 use Rattle.std.proofs.lemmas.List.{length-take-le}
 use Rattle.cppfilt.proofs.RunLaws.{going-start, going-more, stop-read, stop-empty, stop-write, stop-long}
 use Rattle.cppfilt.proofs.filter.filter_blocks.Goals as goal
+
+-- the beginning of a line
+pub loop-taken-init : goal.loop-taken-init
+loop-taken-init g c = (going-start _ _ _ _ _ _ _ _ _ c.requires.fresh, rw c.requires.fresh.0 refl, c.requires.room, c.requires.small)
+
+-- a read failed
+pub returns-in-Err : goal.returns-in-Err
+returns-in-Err g c = stop-read _ _ _ c.loop-taken.invariant.0 c.in-Err.ensures.cause c.in-Err.ensures.count c.in-Err.ensures.bytes
+
+pub returns-in-Err-read_front : goal.returns-in-Err-read_front
+returns-in-Err-read_front g c = stop-read _ _ _ c.loop-taken.invariant.0 c.in-Err-read_front.ensures.cause c.in-Err-read_front.ensures.count c.in-Err-read_front.ensures.bytes
+
+-- one byte more than is taken
+pub returns-in-Ok-read_front : goal.returns-in-Ok-read_front
+returns-in-Ok-read_front g c =
+    let full : c.args.limit ≤ c.loop-taken.taken = search rules in
+    let one : c.in-Ok-read_front.field-0 ≡ 1 = (let h = c.in-Ok-read_front.ensures.bound in let some : 0 < c.in-Ok-read_front.field-0 = search rules in omega arith) in
+    let small : c.in-Ok-read_front.field-0 ≤ length c.read_front-2.new.block = (let k = c.in-Ok-read_front.ensures.kept in let h = c.loop-taken.invariant.2 in omega arith) in
+    stop-long c.in-Ok-read_front.field-0 _ _ _ (take c.in-Ok-read_front.field-0 c.read_front-2.new.block) c.loop-taken.invariant.0 full one c.in-Ok-read_front.ensures.cause c.in-Ok-read_front.ensures.count
+    (length-take-le c.in-Ok-read_front.field-0 c.read_front-2.new.block small) c.in-Ok-read_front.ensures.bytes.0
 
 -- the end of the input
 pub returns-in-Ok-eq0 : goal.returns-in-Ok-eq0
