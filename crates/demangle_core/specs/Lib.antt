@@ -3,4 +3,5 @@ pub mod Same
 pub mod Fields
 pub mod Table
 pub mod Sound
+pub mod Lookups
 pub mod Laws

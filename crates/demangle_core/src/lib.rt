@@ -2,7 +2,7 @@
 //! Nothing here runs: each function is a law, and its contract is the statement.
 #![tactic(auto)]
 
-ghost use Rattle.demangle_core.specs.Laws.{CutTakesBack, EqualityIsAnEquivalence, EqualityOfTablesIsAnEquivalence};
+ghost use Rattle.demangle_core.specs.Laws.{CutTakesBack, EqualityIsAnEquivalence, EqualityOfTablesIsAnEquivalence, LookupsEnd};
 
 /// Equality of trees, which leaves the place of argument lists out, is reflexive and symmetric, and equal trees are equal to
 /// the same trees.
@@ -18,4 +18,10 @@ pub fn equality_of_tables_is_an_equivalence()
 /// What was added to a table is taken back by a cut to the sizes before.
 pub fn cut_takes_back()
     ensures { CutTakesBack }
+{}
+
+/// Where the references of a node and of its table are sound, each look-up ends by itself: after as many turns as the table
+/// has entries there is no reference left to follow, and more turns change nothing. An addition to the original.
+pub fn lookups_end()
+    ensures { LookupsEnd }
 {}
