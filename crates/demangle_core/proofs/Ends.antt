@@ -132,6 +132,7 @@ module _ (e : List Entry) where
 
   component_within : (s : Sort) (c : Core) → RefersTo e c → Within e (component_args s c)
   component_within s (node t c n) r = args_component_within s t (args_step c) (args_within c r.0)
+  component_within s (mark i n) r = component_within s n r
   component_within s _ r = tt
 
   -- of whether it is a constructor, a destructor or a conversion

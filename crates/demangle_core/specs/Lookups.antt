@@ -162,6 +162,7 @@ args_step c = first_step (steps_of args_node no_word c)
 
 abbrev pub component_args : Sort → Core → Next Core
 component_args s (node t c n) = args_component s t (args_step c)
+component_args s (mark i n) = component_args s n
 component_args s _ = nothing
 
 abbrev pub special_step : Core → Next Core
