@@ -1,5 +1,5 @@
 -- What is added is given back by a cut to the sizes before.
-use Rattle.std.proofs.Common.{◌≡◌, refl, ap, ◌∙◌, sym, subst, ℕ, suc, zero, ◌≤◌, ◌+◌, List, [], ◌∷◌, ◌++◌, arith}
+use Rattle.std.proofs.Common.{◌≡◌, refl, ap, ◌∙◌, sym, subst, ℕ, suc, zero, ◌≤◌, List, [], ◌∷◌, ◌++◌, arith}
 use Rattle.demangle_core.specs.Core.{Core, Which, N, U}
 use Rattle.demangle_core.specs.Table.{Entry, Table, count, first_of, added, sizes, cut}
 

@@ -1,6 +1,6 @@
 -- Look-ups end by themselves: a tree refers to components of its table, and each of these to earlier ones.
 use Rattle.std.proofs.Common.{◌≡◌, refl, ap, ◌∙◌, sym, subst, ℕ, zero, suc, Bool, true, false, ◌+◌, ◌<◌, ◌≤◌, List, [], ◌∷◌, ◌++◌, length, append_assoc, append-nil, arith}
-use Rattle.std.specs.Prelude.{Some, None, is_some, slice_get}
+use Rattle.std.specs.Prelude.{Some, is_some, slice_get}
 use Rattle.demangle_core.specs.Core.{Tag, Core, Which, N, U, end, node, place, number, flag, chosen, ref, mark, same_which}
 use Rattle.demangle_core.specs.Table.{Entry, Table, count, count_if, listed, more_if, size, entry_at}
 use Rattle.demangle_core.specs.Sound.{RefersTo, ReferBack, RefsSound}
