@@ -32,3 +32,4 @@ pub mod ReadNames1
 pub mod ReadNames2
 pub mod ByHand
 pub mod Expands
+pub mod SayTheSame

@@ -1,15 +1,17 @@
 -- What holds of each reading. A row is read from a state, which holds the index, the bytes that are left and the entries of
 -- both lists so far; `nil` says that no parts were read before it.
-use Rattle.std.specs.Prelude.{◌≡◌, ◌≢◌, ℕ, suc, false, ◌∷◌, codes, ◌+◌, ◌-◌, ◌<◌, ◌≤◌, ◌↔◌, Bool, true, List, [], ◌++◌, length}
-use Rattle.demangle_core.specs.Table.{Entry, cut, sizes, Table}
-use Rattle.demangle_core.specs.Core.{Core, end, node, place, ◌⊕◌, Tag, N, U}
+use Rattle.std.specs.Prelude.{◌≡◌, ◌≢◌, ℕ, suc, false, ◌∷◌, codes, ◌+◌, ◌-◌, ◌<◌, ◌≤◌, ◌↔◌, Bool, true, List, [], ◌++◌, length, Some}
+use Rattle.demangle_core.specs.Table.{Entry, cut, sizes, Table, entry_at}
+use Rattle.demangle_core.specs.Core.{Core, end, node, place, ref, ◌⊕◌, Tag, Which, N, U}
 use Rattle.demangle_grammar.specs.Rule.{Row}
 use Rattle.demangle_grammar.specs.Tree.{Tree, trees, cores, reference, core, nil, spell, components, Sound}
 use Rattle.demangle_core.specs.Sound.{RefersTo, ReferBack, RefsSound}
 use Rattle.demangle_grammar.specs.Rows.{rule}
 use Rattle.demangle_grammar.specs.Reading.{State, Answer, Yes, No, Deep, read_from, read_all, levels_of}
 use Rattle.demangle_grammar.specs.Fits.{Fits}
-use Rattle.demangle_grammar.specs.Sound.{IsSoundFor}
+use Rattle.demangle_grammar.specs.Sound.{IsSoundFor, IsComponent, EachEntry}
+use Rattle.demangle_grammar.specs.Expand.{IsExpanded, expand_upto, expand}
+use Rattle.demangle_grammar.specs.Expand as expanded
 use Rattle.demangle_grammar.specs.First.{takes_row, first, idle, Misses}
 use Rattle.demangle_grammar.specs.Code.{Here, Found, joined, cread}
 use Rattle.demangle_grammar.specs.Seen.{seen, replied}
@@ -47,6 +49,20 @@ RefersBack = (left : ℕ) (row : Row) (conv : Bool) (s t : State) (tree : Tree) 
 -- What is sound for an input is sound in its references.
 abbrev pub SoundRefers : Type 0
 SoundRefers = (input : List ℕ) (table : Table) (tree : Core) → IsSoundFor input table tree → RefsSound table tree
+
+-- ---- expanding
+-- Where references are sound, expanding follows each of them: more steps than there are entries change nothing.
+abbrev pub FollowsReferences : Type 0
+FollowsReferences = (table : Table) (input : List ℕ) (tree : Core) (most : ℕ) → RefsSound table tree → length table ≤ most → expand_upto most table input tree ≡ expand table input tree
+
+-- In place of a reference, whose handle is a node, stands the expanded tree of its entry in the node of its kind.
+abbrev pub ExpandsEntries : Type 0
+ExpandsEntries = (table : Table) (input : List ℕ) (handle kind : Tag) (w : Which) (k : ℕ) (entry m more next : Core) → ReferBack [] table → entry_at w k table ≡ Some (node kind entry more) →
+    expand table input (node handle (ref w k m) next) ≡ expanded.node kind (expand table input entry) (expand table input next)
+
+-- Where each entry is one node, no reference leads to nothing.
+abbrev pub ExpandsAll : Type 0
+ExpandsAll = (table : Table) (input : List ℕ) (tree : Core) → RefsSound table tree → EachEntry IsComponent table → IsExpanded (expand table input tree)
 
 -- ---- two names
 -- from the first of these bytes, with no entries

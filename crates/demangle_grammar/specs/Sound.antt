@@ -1,5 +1,5 @@
 -- Sound nodes and tables: what printing asks of a node, its table and the input.
-use Rattle.std.specs.Prelude.{◌⊎◌, ◌≡◌, ℕ, ◌≤◌, ◌-◌, ◌==◌, List, [], ◌∷◌, ◌++◌, length, take, drop, not, codes}
+use Rattle.std.specs.Prelude.{◌⊎◌, ◌≡◌, ℕ, ◌≤◌, ◌-◌, ◌==◌, List, [], ◌∷◌, ◌++◌, length, take, drop, not, codes, Bool, true, false}
 use Rattle.demangle_core.specs.Core.{Core, Tag, end, node, place, number, flag, chosen, ref, mark}
 use Rattle.demangle_core.specs.Table.{Entry, Table}
 use Rattle.demangle_grammar.specs.Rule.{Class}
@@ -54,6 +54,21 @@ HasResults (flag b n) = HasResults n
 HasResults (chosen k w n) = HasResults n
 HasResults (ref w k n) = HasResults n
 HasResults (mark i n) = HasResults n
+
+-- the kinds of components
+abbrev pub is_substitutable : Tag → Bool
+is_substitutable Tag.SubstitutableUnscopedTemplateName = true
+is_substitutable Tag.SubstitutableTypeNode = true
+is_substitutable Tag.SubstitutableTemplateTemplateParam = true
+is_substitutable Tag.SubstitutableUnresolvedType = true
+is_substitutable Tag.SubstitutablePrefix = true
+is_substitutable Tag.SubstitutableExpression = true
+is_substitutable _ = false
+
+-- an entry is one node, of such a kind
+abbrev pub IsComponent : Core → Type 0
+IsComponent (node t c end) = is_substitutable t ≡ true
+IsComponent _ = ⊥
 
 -- of each entry
 abbrev pub EachEntry : (Core → Type 0) → List Entry → Type 0

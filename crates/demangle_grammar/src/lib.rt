@@ -2,7 +2,7 @@
 //! is a law, and its contract is the statement. docs/GRAMMAR.md leads through the definitions.
 #![tactic(auto)]
 
-ghost use Rattle.demangle_grammar.specs.Laws.{Spells, GoesOn, IsFit, AddsComponents, IsSound, RefersBack, SoundRefers, Ends, HasNoLimit, IsLimited, IsIdle, ReadsCores, ReadsCode, CompletesPointer, CompletesPrefixes, GivesBack, TakesByte, NoLonger, KeepsIndex};
+ghost use Rattle.demangle_grammar.specs.Laws.{Spells, GoesOn, IsFit, AddsComponents, IsSound, RefersBack, SoundRefers, FollowsReferences, ExpandsEntries, ExpandsAll, Ends, HasNoLimit, IsLimited, IsIdle, ReadsCores, ReadsCode, CompletesPointer, CompletesPrefixes, GivesBack, TakesByte, NoLonger, KeepsIndex};
 
 /// A tree that was read spells just the bytes that were read.
 pub fn spells()
@@ -37,6 +37,21 @@ pub fn refers_back()
 /// A node and a table that are sound for an input are sound in their references.
 pub fn sound_refers()
     ensures { SoundRefers }
+{}
+
+/// Where references are sound, expanding follows each of them: more steps than there are entries change nothing.
+pub fn follows_references()
+    ensures { FollowsReferences }
+{}
+
+/// In place of a reference stands the expanded tree of its entry in the node of its kind.
+pub fn expands_entries()
+    ensures { ExpandsEntries }
+{}
+
+/// Where each entry is one node, no reference leads to nothing.
+pub fn expands_all()
+    ensures { ExpandsAll }
 {}
 
 /// The components of the tree of `P1a` are the class type and then the pointer.
