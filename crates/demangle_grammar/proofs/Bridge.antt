@@ -9,6 +9,8 @@ use Rattle.demangle_text.specs.Kind as kind
 use Rattle.demangle_text.specs.Spot.{Spot, skip}
 use Rattle.demangle_text.specs.Found.{Found, took, none, mapped, and_rest}
 use Rattle.demangle_text.specs.Bytes.{span, is_digit}
+use Rattle.demangle_text.specs.Characters.{identifier_len}
+use Rattle.demangle_text.proofs.Runs.{run_inside}
 use Rattle.demangle_text.specs.Word.{starts, missing_word, word_at}
 use Rattle.demangle_text.specs.Number.{natural_at, number_at, natural_from, number_from}
 use Rattle.demangle_vocab.specs.Table.{table_at, word_read, table_from}
@@ -123,6 +125,10 @@ run_at_within : (c : Class) (i : ℕ) (bs : List ℕ) → Within bs (find (Eat.r
 run_at_within c i [] = tt
 run_at_within c i (b ∷ bs) = run_within i (span (is_in c) (b ∷ bs)) (b ∷ bs) (length-take-le (span (is_in c) (b ∷ bs)) (b ∷ bs) (span_within (is_in c) (b ∷ bs)))
 
+identifier_within : (i : ℕ) (bs : List ℕ) → Within bs (find Eat.identifier i bs)
+identifier_within i [] = tt
+identifier_within i (b ∷ bs) = run_within i (identifier_len (b ∷ bs)) (b ∷ bs) (length-take-le (identifier_len (b ∷ bs)) (b ∷ bs) (run_inside (b ∷ bs)))
+
 byte_within : (c : Class) (i : ℕ) (bs : List ℕ) → Within bs (find (Eat.byte c) i bs)
 byte_within c i [] = tt
 byte_within c i (b ∷ bs) = test_within (is_in c b) (b ∷ bs) 1 end refl
@@ -158,6 +164,7 @@ unfolding eat_at number_from natural_from table_from word_read
 eat_sees (Eat.give g) s acc go go' h = same_at go go' h (ahead_by 0 s) (joined acc ⊕ given g) (acc ++ given g ∷ []) (seen s) (snoc acc (given g)) (nothing_taken s)
 eat_sees Eat.here s acc go go' h = same_at go go' h (ahead_by 0 s) (joined acc ⊕ mark s.at end) (acc ++ mark s.at end ∷ []) (seen s) (snoc acc (mark s.at end)) (nothing_taken s)
 eat_sees (Eat.run c) s acc go go' h = found_sees s acc go go' h (find (Eat.run c) s.at s.rest) (run_at_within c s.at s.rest)
+eat_sees Eat.identifier s acc go go' h = found_sees s acc go go' h (find Eat.identifier s.at s.rest) (identifier_within s.at s.rest)
 eat_sees (Eat.upto b) s acc go go' h = found_sees s acc go go' h (find (Eat.upto b) s.at s.rest) (length-take-le (span (λ x. not (x == b)) s.rest) s.rest (span_within (λ x. not (x == b)) s.rest))
 eat_sees (Eat.byte c) s acc go go' h = found_sees s acc go go' h (find (Eat.byte c) s.at s.rest) (byte_within c s.at s.rest)
 eat_sees Eat.digit s acc go go' h = found_sees s acc go go' h (find Eat.digit s.at s.rest) (digit_within s.at s.rest)

@@ -1,36 +1,35 @@
 -- What is compared of a reading of given bytes.
 use Rattle.std.specs.Prelude.{◌≡◌, ℕ, ◌&&◌, ◌||◌, nat_le, Bool, false, zero, suc, List, [], ◌∷◌}
 use Rattle.std.proofs.Common.{ap, ◌∙◌, arith}
-use Rattle.demangle_core.specs.Table.{Entry, count}
+use Rattle.demangle_core.specs.Table.{Entry}
 use Rattle.demangle_text.specs.Kind.{Cause}
-use Rattle.demangle_core.specs.Core.{Core, Which, N, U}
+use Rattle.demangle_core.specs.Core.{Core, Which}
 use Rattle.demangle_grammar.specs.Rule.{Row, Rule}
 use Rattle.demangle_grammar.specs.Items.{Item}
 use Rattle.demangle_grammar.specs.Tree.{Tree, core, nil}
 use Rattle.demangle_grammar.specs.Reading.{Answer, Yes, No, Deep, Measured, measure_from, enough, read_all}
 use Rattle.demangle_grammar.specs.First.{takes_row, begins_by, first_in, first, idle_by, idle_in, idle}
-use Rattle.demangle_grammar.specs.Laws.{from, read, reach, components_read}
+use Rattle.demangle_grammar.specs.Laws.{from, reach}
 use Rattle.demangle_grammar.proofs.Limits.{whole}
 
--- the index behind it, the tree, and how many components there are in each list; or the cause of the failure
+-- the index behind it, the tree, and the entries in the order of insertion; or the cause of the failure
 pub data Outcome : Type 0 where
-  Read : (stop : ℕ) → Core → (numbered others : ℕ) → Outcome
+  Read : (stop : ℕ) → Core → List Entry → Outcome
   Refused : Cause → Outcome
   TooDeep : Outcome
 
 abbrev pub outcome : Answer Tree → Outcome
-outcome (Yes s a) = Read s.at (core a) (count N s.entries) (count U s.entries)
+outcome (Yes s a) = Read s.at (core a) s.entries
 outcome (No h c) = Refused c
 outcome Deep = TooDeep
+
+abbrev pub entry : Which → Core → Entry
+entry w c = record { which = w; tree = c }
 
 -- without a limit, with the conversion flag, from the first byte, with no entries
 pub record Reads (row : Row) (conv : Bool) (bytes : List ℕ) (o : Outcome) (n : ℕ) : Type 0 where
   pub answer : outcome (read_all row conv (from bytes)) ≡ o
   pub deepest : reach 0 row conv (from bytes) ≡ n
-
--- under a limit, from a level
-abbrev pub ReadsUnder : (limit level : ℕ) → Row → Bool → List ℕ → Outcome → Type 0
-ReadsUnder limit level row conv bytes o = outcome (read limit level row conv (from bytes)) ≡ o
 
 abbrev pub told : Measured → Outcome × ℕ
 told m = (outcome m.answer, m.levels)
@@ -58,14 +57,6 @@ pub record Begins (row : Row) (t : Bool) (ranges : List (ℕ × ℕ)) (n : ℕ) 
   pub takes : takes_row row ≡ t
   pub first : bytes_of 256 (first row) ≡ bytes_of 256 (in_ranges ranges)
   pub idle : idle row ≡ n
-
--- ---- components
-abbrev pub entry : Which → Core → Entry
-entry w c = record { which = w; tree = c }
-
--- the components of the tree that the row reads from these bytes, in order
-abbrev pub Completes : Row → List ℕ → List Entry → Type 0
-Completes row bytes es = components_read (read 96 0 row false (from bytes)) ≡ es
 
 -- the same of a part of a row, which counts no level of its own
 pub record PartBegins (part : Item) (ranges : List (ℕ × ℕ)) (n : ℕ) : Type 0 where

@@ -1,7 +1,7 @@
--- The first bytes of each row, and how deep it goes where the next byte is another. Written by tools/conformance.py.
-use Rattle.std.specs.Prelude.{true, false, ◌∷◌, []}
+-- The first bytes of each row, and how deep it goes where the next byte is another. Written by tools/write_readings.py.
+use Rattle.std.specs.Prelude.{true, false, [], ◌∷◌}
 use Rattle.std.proofs.Common.{refl}
-use Rattle.demangle_core.specs.Core.{Tag}
+use Rattle.demangle_core.specs.Core.{Tag, number}
 use Rattle.demangle_grammar.specs.Rule.{Row}
 use Rattle.demangle_grammar.specs.Rows.{rule, global, operators}
 use Rattle.demangle_grammar.specs.First.{takes_in, first_in, idle_in}
@@ -115,7 +115,7 @@ global_ctor_dtor : Begins Row.global_ctor_dtor true ((36, 36) ∷ (46, 46) ∷ (
 unfolding rule takes_in first_in idle_in
 global_ctor_dtor = record { takes = refl; first = refl; idle = refl }
 
-identifier : Begins Row.identifier true ((36, 36) ∷ (46, 46) ∷ (48, 57) ∷ (65, 90) ∷ (95, 95) ∷ (97, 122) ∷ []) 1
+identifier : Begins Row.identifier true ((36, 36) ∷ (46, 46) ∷ (48, 57) ∷ (65, 90) ∷ (95, 95) ∷ (97, 122) ∷ (194, 244) ∷ []) 1
 unfolding rule takes_in first_in idle_in
 identifier = record { takes = refl; first = refl; idle = refl }
 

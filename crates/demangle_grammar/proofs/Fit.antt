@@ -2,13 +2,14 @@
 use Rattle.std.specs.Prelude.{◌≡◌, ℕ, zero, suc, ◌+◌, ◌-◌, Bool, true, false, cond, not, List, [], ◌∷◌, ◌++◌, length, take, drop, nat_lt, ◌==◌, pos, ℤ}
 use Rattle.std.proofs.Common.{refl, subst, sym, ap, ◌∙◌, arith, length-append, length-take}
 use Rattle.std.proofs.Math.Seq.{drop-append_seam}
+use Rattle.std.proofs.lemmas.List.{length-take-le}
 use Rattle.std.proofs.lemmas.Bool.{ltb-true}
 use Rattle.demangle_core.specs.Table.{count}
 use Rattle.demangle_core.specs.Core.{Core, end, place, number, N}
 use Rattle.demangle_grammar.specs.Rule.{Class, Eat, Leaf, Rule}
 use Rattle.demangle_grammar.specs.Tree.{trees, Tree, nil, core, spell, components, component_of, How}
 use Rattle.demangle_grammar.specs.Rows.{rule}
-use Rattle.demangle_grammar.specs.Reading.{State, Answer, Yes, stepped, found, where_so, answer, go_on, find, holds, prefix_entry, is_nestable, is_in, run_at, run_found, byte_at, digit_at, ahead_by, numeral_at, worded, refusal, numbered}
+use Rattle.demangle_grammar.specs.Reading.{State, Answer, Yes, stepped, found, where_so, answer, go_on, find, holds, prefix_entry, is_nestable, is_in, run_at, identifier_at, run_found, byte_at, digit_at, ahead_by, numeral_at, worded, refusal, numbered}
 use Rattle.demangle_grammar.proofs.Derives.{Derives, narrowed, digits_of}
 use Rattle.demangle_grammar.specs.Fits.{AllOf, IsNumber, IsOne, Stands, past, only, Fits}
 use Rattle.demangle_grammar.specs.Laws.{IsFit}
@@ -20,6 +21,9 @@ use Rattle.demangle_text.specs.Number.{natural_at, number_at}
 use Rattle.demangle_text.specs.Kind.{Cause, Text}
 use Rattle.demangle_text.specs.Found.{Found, took, none, mapped}
 use Rattle.demangle_text.specs.Bytes.{is_digit, span}
+use Rattle.demangle_text.specs.Characters.{AreIdentifierChars, identifier_len}
+use Rattle.demangle_text.proofs.Identifiers.{run_is_chars}
+use Rattle.demangle_text.proofs.Runs.{run_inside}
 use Rattle.demangle_grammar.proofs.Numbers.{span_all, NaturalAt, natural_fits, NumberAt, WordAt, word_fits, number_fits}
 use Rattle.demangle_vocab.specs.Table.{table_at}
 
@@ -35,6 +39,14 @@ run_is c at (b ∷ bs) = by (span (is_in c) (b ∷ bs)) (span_all (is_in c) (b �
     by : (n : ℕ) → AllOf (is_in c) (take n (b ∷ bs)) × (length (take n (b ∷ bs)) ≡ n) → Is (Eat.run c) at (b ∷ bs) (run_found at n)
     by zero h = tt
     by (suc n) h = (tt, h.0, ap (λ k. place at (at + k) end) (sym h.1))
+
+identifier_is : (at : ℕ) (bs : List ℕ) → Is Eat.identifier at bs (identifier_at at bs)
+identifier_is at [] = tt
+identifier_is at (b ∷ bs) = by (identifier_len (b ∷ bs)) (run_is_chars (b ∷ bs)) (length-take-le (identifier_len (b ∷ bs)) (b ∷ bs) (run_inside (b ∷ bs)))
+  where
+    by : (n : ℕ) → AreIdentifierChars (take n (b ∷ bs)) → length (take n (b ∷ bs)) ≡ n → Is Eat.identifier at (b ∷ bs) (run_found at n)
+    by zero h e = tt
+    by (suc n) h e = (tt, h, ap (λ k. place at (at + k) end) (sym e))
 
 plus_zero : (n : ℕ) → n ≡ n + 0
 plus_zero n = omega arith
@@ -71,6 +83,7 @@ digit_is at (b ∷ bs) = by (is_digit b) refl
 
 found_is : (x : Eat) (at : ℕ) (bs : List ℕ) → Is x at bs (find x at bs)
 found_is (Eat.run c) at bs = run_is c at bs
+found_is Eat.identifier at bs = identifier_is at bs
 found_is (Eat.upto b) at bs = let a = span_all (λ x. not (x == b)) bs in (a.0, ap (λ k. place at (at + k) end) (sym a.1))
 found_is (Eat.byte c) at bs = byte_is c at bs
 found_is Eat.digit at bs = digit_is at bs

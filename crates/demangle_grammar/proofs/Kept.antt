@@ -16,6 +16,7 @@ use Rattle.demangle_text.specs.Number.{number_at}
 use Rattle.demangle_text.specs.Kind.{Cause, Text, Bad}
 use Rattle.demangle_text.specs.Found.{Found, took, none, mapped}
 use Rattle.demangle_text.specs.Bytes.{is_digit, span}
+use Rattle.demangle_text.specs.Characters.{identifier_len}
 use Rattle.demangle_vocab.specs.Table.{table_at}
 use Rattle.demangle_grammar.proofs.Numbers.{starts_so}
 
@@ -115,6 +116,8 @@ worded_refers t (none c) = tt
 fields_refer : (x : Eat) (at : ℕ) (bs : List ℕ) → NoReference (find x at bs)
 fields_refer (Eat.run c) at [] = tt
 fields_refer (Eat.run c) at (b ∷ bs) = run_refers at (span (is_in c) (b ∷ bs))
+fields_refer Eat.identifier at [] = tt
+fields_refer Eat.identifier at (b ∷ bs) = run_refers at (identifier_len (b ∷ bs))
 fields_refer (Eat.upto b) at bs = λ e. tt
 fields_refer (Eat.byte c) at [] = tt
 fields_refer (Eat.byte c) at (b ∷ bs) = test_refers (is_in c b) (took 1 end) Text (λ e. tt)

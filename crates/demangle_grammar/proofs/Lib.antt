@@ -22,14 +22,6 @@ pub mod Back
 pub mod Conforms
 pub mod Firsts
 pub mod ReadRows1
-pub mod ReadRows2
-pub mod ReadRows3
-pub mod ReadRows4
-pub mod ReadRows5
-pub mod ReadRows6
-pub mod ReadRows7
-pub mod ReadNames1
-pub mod ReadNames2
 pub mod ByHand
 pub mod Expands
 pub mod SayTheSame

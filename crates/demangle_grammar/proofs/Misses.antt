@@ -1,16 +1,19 @@
 -- A leaf that stops fails where the next byte isn't one with which it begins.
-use Rattle.std.specs.Prelude.{◌≡◌, ℕ, Bool, true, false, cond, ◌&&◌, ◌||◌, List, [], ◌∷◌, length, drop, ◌==◌}
-use Rattle.std.proofs.Common.{refl, subst, sym, ap}
+use Rattle.std.specs.Prelude.{◌≡◌, ℕ, zero, suc, ◌<◌, Bool, true, false, cond, ◌&&◌, ◌||◌, List, [], ◌∷◌, length, drop, ◌==◌}
+use Rattle.std.proofs.Common.{refl, subst, sym, ap, ◌∙◌, arith}
+use Rattle.std.proofs.lemmas.Bool.{true≢false}
 use Rattle.demangle_core.specs.Core.{Core}
 use Rattle.demangle_grammar.specs.Rule.{Leaf, Eat, Cond, Class}
 use Rattle.demangle_grammar.specs.Tree.{trees, Tree}
-use Rattle.demangle_grammar.specs.Reading.{State, Answer, No, stepped, found, where_so, answer, go_on, find, run_at, run_found, is_in, next_is, any_starts, no_digit, numbered, worded}
+use Rattle.demangle_grammar.specs.Reading.{State, Answer, No, stepped, found, where_so, answer, go_on, find, run_at, identifier_at, run_found, is_in, next_is, any_starts, no_digit, numbered, worded}
 use Rattle.demangle_grammar.specs.First.{takes_leaf, begins_leaf, stops, heads, no_empty, Misses}
 use Rattle.demangle_text.specs.Word.{starts}
 use Rattle.demangle_text.specs.Number.{number_at}
 use Rattle.demangle_text.specs.Kind.{Cause, Text}
 use Rattle.demangle_text.specs.Found.{Found, took, none}
 use Rattle.demangle_text.specs.Bytes.{is_digit}
+use Rattle.demangle_text.specs.Characters.{begins_char, identifier_len}
+use Rattle.demangle_text.proofs.Identifiers.{run_begins}
 use Rattle.demangle_grammar.proofs.Numbers.{Missing, span_zero, mapped_missing, number_missing, word_missing}
 use Rattle.demangle_grammar.proofs.Truth.{or_false}
 use Rattle.demangle_vocab.specs.Table.{table_at}
@@ -22,6 +25,14 @@ Fails _ = ⊥
 run_missing : (c : Class) (at : ℕ) (bs : List ℕ) → Misses (is_in c) bs → Missing (run_at c at bs)
 run_missing c at [] e = tt
 run_missing c at (b ∷ bs) e = subst (λ n. Missing (run_found at n)) (sym (span_zero (is_in c) b bs e)) tt
+
+identifier_missing : (at : ℕ) (bs : List ℕ) → Misses begins_char bs → Missing (identifier_at at bs)
+identifier_missing at [] e = tt
+identifier_missing at (b ∷ bs) e = by (identifier_len (b ∷ bs)) (run_begins b bs)
+  where
+    by : (n : ℕ) → (0 < n → begins_char b ≡ true) → Missing (run_found at n)
+    by zero h = tt
+    by (suc n) h = let begins = h (omega arith) in absurd (true≢false (sym begins ∙ e))
 
 test_missing : (z : Bool) (f : Found Core) (k : Cause) → z ≡ false → Missing (cond z f (none k))
 test_missing true f k e = absurd (cc)
@@ -43,6 +54,8 @@ heads_miss ws (b ∷ bs) e = e
 
 finds_none : (x : Eat) → takes_leaf (Leaf.eat x) ≡ true → (at : ℕ) (bs : List ℕ) → Misses (begins_leaf (Leaf.eat x)) bs → Missing (find x at bs)
 finds_none (Eat.run c) t at bs e = run_missing c at bs e
+finds_none Eat.identifier t at [] e = tt
+finds_none Eat.identifier t at (b ∷ bs) e = identifier_missing at (b ∷ bs) e
 finds_none (Eat.upto b) t at bs e = absurd (cc)
 finds_none (Eat.byte c) t at [] e = tt
 finds_none (Eat.byte c) t at (b ∷ bs) e = test_missing (is_in c b) _ _ e

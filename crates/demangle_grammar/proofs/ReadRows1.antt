@@ -1,386 +1,370 @@
--- Readings of rows, by computation. Written by tools/conformance.py.
-use Rattle.std.specs.Prelude.{false, codes, pos, negsuc}
+-- Readings of rows, by computation. Written by tools/write_readings.py.
+use Rattle.std.specs.Prelude.{true, false, [], ◌∷◌, codes, pos, negsuc}
 use Rattle.std.proofs.Common.{refl}
-use Rattle.demangle_text.specs.Kind.{End, Text}
+use Rattle.demangle_text.specs.Kind.{End, Text, Bad}
 use Rattle.demangle_core.specs.Core.{Tag, N, U, end, node, place, number, flag, chosen, ref, mark}
 use Rattle.demangle_core.specs.Table.{entry_at}
 use Rattle.demangle_grammar.specs.Rule.{Row}
 use Rattle.demangle_grammar.specs.Rows.{rule}
-use Rattle.demangle_grammar.specs.Reading.{run_rule, read_from, measure_from}
-use Rattle.demangle_grammar.proofs.Conforms.{Read, Refused, TooDeep, Reads, ReadsUnder, by_measure}
+use Rattle.demangle_grammar.specs.Reading.{run_rule, measure_from}
+use Rattle.demangle_grammar.proofs.Conforms.{Read, Refused, Reads, by_measure, entry}
 
-r0 : Reads Row.abi_tag false (codes "B1A") (Read 3 (node Tag.AbiTag (node Tag.SourceName (node Tag.Identifier (place 2 3 end) end) end) end) 0 0) 3
+template_param_1 : Reads Row.template_param false (codes "_1a") (Refused Text) 1
 unfolding measure_from run_rule rule entry_at
-r0 = by_measure refl
+template_param_1 = by_measure refl
 
-r1 : Reads Row.abi_tag false (codes "B1B") (Read 3 (node Tag.AbiTag (node Tag.SourceName (node Tag.Identifier (place 2 3 end) end) end) end) 0 0) 3
+class_enum_type_1 : Reads Row.class_enum_type false (codes "6helperIXszdcPT_T0_E") (Refused Text) 15
 unfolding measure_from run_rule rule entry_at
-r1 = by_measure refl
+class_enum_type_1 = by_measure refl
 
-r2 : Reads Row.abi_tag false (codes "E") (Refused Text) 1
+special_name_1 : Reads Row.special_name false (codes "T_n8_1fv") (Refused Text) 1
 unfolding measure_from run_rule rule entry_at
-r2 = by_measure refl
+special_name_1 = by_measure refl
 
-r3 : Reads Row.abi_tag false (codes "B4T") (Refused End) 2
+expr_primary_1 : Reads Row.expr_primary false (codes "L_ZNS_1zEEE") (Refused Text) 9
 unfolding measure_from run_rule rule entry_at
-r3 = by_measure refl
+expr_primary_1 = by_measure refl
 
-r4 : ReadsUnder 3 0 Row.abi_tag false (codes "B1A") TooDeep
-unfolding read_from run_rule rule entry_at
-r4 = refl
-
-r5 : ReadsUnder 4 0 Row.abi_tag false (codes "B1A") (Read 3 (node Tag.AbiTag (node Tag.SourceName (node Tag.Identifier (place 2 3 end) end) end) end) 0 0)
-unfolding read_from run_rule rule entry_at
-r5 = refl
-
-r6 : Reads Row.abi_tags false (codes "E") (Read 0 (node Tag.AbiTags (node Tag.Several end end) end) 0 0) 2
+base_unresolved_name_1 : Reads Row.base_unresolved_name false (codes "3f_o") (Read 4 (node Tag.BaseUnresolvedNameName (node Tag.SimpleId (node Tag.SourceName (node Tag.Identifier (place 1 4 end) end) (node Tag.Absent end end)) end) end) []) 4
 unfolding measure_from run_rule rule entry_at
-r6 = by_measure refl
+base_unresolved_name_1 = by_measure refl
 
-r7 : Reads Row.abi_tags false (codes "B1A") (Read 3 (node Tag.AbiTags (node Tag.Several (node Tag.AbiTag (node Tag.SourceName (node Tag.Identifier (place 2 3 end) end) end) end) end) end) 0 0) 4
+source_name_1 : Reads Row.source_name false (codes "14int_if_addable") (Read 16 (node Tag.SourceName (node Tag.Identifier (place 2 16 end) end) end) []) 2
 unfolding measure_from run_rule rule entry_at
-r7 = by_measure refl
+source_name_1 = by_measure refl
 
-r8 : ReadsUnder 4 0 Row.abi_tags false (codes "B1A") TooDeep
-unfolding read_from run_rule rule entry_at
-r8 = refl
-
-r9 : ReadsUnder 5 0 Row.abi_tags false (codes "B1A") (Read 3 (node Tag.AbiTags (node Tag.Several (node Tag.AbiTag (node Tag.SourceName (node Tag.Identifier (place 2 3 end) end) end) end) end) end) 0 0)
-unfolding read_from run_rule rule entry_at
-r9 = refl
-
-r10 : Reads Row.array_type false (codes "A1_i") (Read 4 (node Tag.ArrayTypeDimensionNumber (number (pos 1) (node Tag.TypeHandleBuiltin (node Tag.BuiltinTypeStandard (chosen 1 8 end) end) end)) end) 0 0) 4
+unscoped_name_1 : Reads Row.unscoped_name false (codes "4f00_1a") (Read 5 (node Tag.UnscopedNameUnqualified (node Tag.UnqualifiedNameSource (node Tag.SourceName (node Tag.Identifier (place 1 5 end) end) (node Tag.AbiTags (node Tag.Several end end) end)) end) end) []) 4
 unfolding measure_from run_rule rule entry_at
-r10 = by_measure refl
+unscoped_name_1 = by_measure refl
 
-r11 : Reads Row.array_type false (codes "A_aE") (Read 3 (node Tag.ArrayTypeNoDimension (node Tag.TypeHandleBuiltin (node Tag.BuiltinTypeStandard (chosen 1 4 end) end) end) end) 0 0) 6
+clone_suffix_1 : Reads Row.clone_suffix false (codes ".1988") (Read 5 (node Tag.CloneSuffix (node Tag.CloneTypeIdentifier (place 1 5 end) (node Tag.Several end end)) end) []) 2
 unfolding measure_from run_rule rule entry_at
-r11 = by_measure refl
+clone_suffix_1 = by_measure refl
 
-r12 : Reads Row.array_type false (codes "A1_T_") (Read 5 (node Tag.ArrayTypeDimensionNumber (number (pos 1) (node Tag.BackReference (ref N 0 end) end)) end) 1 0) 9
+function_type_1 : Reads Row.function_type false (codes "FN1a1bEN1c1dEEE") (Read 14 (node Tag.FunctionType (node Tag.CvQualifiers (flag false (flag false (flag false end))) (node Tag.Absent end (flag false (flag false (node Tag.BareFunctionType (node Tag.Several (node Tag.BackReference (ref N 1 end) (node Tag.BackReference (ref N 3 end) end)) end) (node Tag.Absent end end)))))) end) (entry N (node Tag.SubstitutablePrefix (node Tag.PrefixUnqualified (node Tag.UnqualifiedNameSource (node Tag.SourceName (node Tag.Identifier (place 3 4 end) end) (node Tag.AbiTags (node Tag.Several end end) end)) end) end) end) ∷ entry U (node Tag.SubstitutablePrefix (node Tag.PrefixNested (node Tag.BackReference (ref N 0 end) (node Tag.UnqualifiedNameSource (node Tag.SourceName (node Tag.Identifier (place 5 6 end) end) (node Tag.AbiTags (node Tag.Several end end) end)) end)) end) end) ∷ entry N (node Tag.SubstitutableTypeNode (node Tag.TypeNodeClassEnum (node Tag.ClassEnumTypeNamed (node Tag.NameNested (node Tag.NestedNameUnqualified (node Tag.CvQualifiers (flag false (flag false (flag false end))) (node Tag.Absent end (node Tag.Present (node Tag.BackReference (ref N 0 end) end) (node Tag.UnqualifiedNameSource (node Tag.SourceName (node Tag.Identifier (place 5 6 end) end) (node Tag.AbiTags (node Tag.Several end end) end)) end)))) end) end) end) end) end) ∷ entry N (node Tag.SubstitutablePrefix (node Tag.PrefixUnqualified (node Tag.UnqualifiedNameSource (node Tag.SourceName (node Tag.Identifier (place 9 10 end) end) (node Tag.AbiTags (node Tag.Several end end) end)) end) end) end) ∷ entry U (node Tag.SubstitutablePrefix (node Tag.PrefixNested (node Tag.BackReference (ref N 2 end) (node Tag.UnqualifiedNameSource (node Tag.SourceName (node Tag.Identifier (place 11 12 end) end) (node Tag.AbiTags (node Tag.Several end end) end)) end)) end) end) ∷ entry N (node Tag.SubstitutableTypeNode (node Tag.TypeNodeClassEnum (node Tag.ClassEnumTypeNamed (node Tag.NameNested (node Tag.NestedNameUnqualified (node Tag.CvQualifiers (flag false (flag false (flag false end))) (node Tag.Absent end (node Tag.Present (node Tag.BackReference (ref N 2 end) end) (node Tag.UnqualifiedNameSource (node Tag.SourceName (node Tag.Identifier (place 11 12 end) end) (node Tag.AbiTags (node Tag.Several end end) end)) end)))) end) end) end) end) end) ∷ [])) 11
 unfolding measure_from run_rule rule entry_at
-r12 = by_measure refl
+function_type_1 = by_measure refl
 
-r13 : Reads Row.array_type false (codes "AT0__T_") (Read 7 (node Tag.ArrayTypeDimensionExpression (node Tag.ExpressionTemplateParam (node Tag.TemplateParam (number (pos 1) end) end) (node Tag.BackReference (ref N 0 end) end)) end) 1 0) 9
+destructor_name_1 : Reads Row.destructor_name false (codes "_tfp_E") (Refused Text) 4
 unfolding measure_from run_rule rule entry_at
-r13 = by_measure refl
+destructor_name_1 = by_measure refl
 
-r14 : Reads Row.array_type false (codes "AsZT__i") (Read 7 (node Tag.ArrayTypeDimensionExpression (node Tag.ExpressionSizeofTemplatePack (node Tag.TemplateParam (number (pos 0) end) end) (node Tag.TypeHandleBuiltin (node Tag.BuiltinTypeStandard (chosen 1 8 end) end) end)) end) 0 0) 4
+builtin_type_1 : Reads Row.builtin_type false (codes "h") (Read 1 (node Tag.BuiltinTypeStandard (chosen 1 5 end) end) []) 2
 unfolding measure_from run_rule rule entry_at
-r14 = by_measure refl
+builtin_type_1 = by_measure refl
 
-r15 : Reads Row.array_type false (codes "ApsT__iE") (Read 7 (node Tag.ArrayTypeDimensionExpression (node Tag.ExpressionUnary (node Tag.OperatorNameSimple (chosen 0 4 end) (node Tag.ExpressionTemplateParam (node Tag.TemplateParam (number (pos 0) end) end) end)) (node Tag.TypeHandleBuiltin (node Tag.BuiltinTypeStandard (chosen 1 8 end) end) end)) end) 0 0) 6
+function_type_2 : Reads Row.function_type false (codes "Ff") (Refused End) 10
 unfolding measure_from run_rule rule entry_at
-r15 = by_measure refl
+function_type_2 = by_measure refl
 
-r16 : Reads Row.array_type false (codes "AstT__iE") (Read 7 (node Tag.ArrayTypeDimensionExpression (node Tag.ExpressionSizeofType (node Tag.BackReference (ref N 0 end) end) (node Tag.TypeHandleBuiltin (node Tag.BuiltinTypeStandard (chosen 1 8 end) end) end)) end) 1 0) 10
+template_args_1 : Reads Row.template_args false (codes "IZ3FoovEUlRiRT_E_E") (Read 18 (node Tag.TemplateArgs (mark 0 (node Tag.Several (node Tag.TemplateArgTypeArg (node Tag.BackReference (ref N 3 end) end) end) end)) end) (entry N (node Tag.SubstitutableTypeNode (node Tag.TypeNodeLvalueRef (node Tag.TypeHandleBuiltin (node Tag.BuiltinTypeStandard (chosen 1 8 end) end) end) end) end) ∷ entry N (node Tag.SubstitutableTypeNode (node Tag.TypeNodeTemplateParam (node Tag.TemplateParam (number (pos 0) end) end) end) end) ∷ entry N (node Tag.SubstitutableTypeNode (node Tag.TypeNodeLvalueRef (node Tag.BackReference (ref N 1 end) end) end) end) ∷ entry N (node Tag.SubstitutableTypeNode (node Tag.TypeNodeClassEnum (node Tag.ClassEnumTypeNamed (node Tag.NameLocal (node Tag.LocalNameRelative (node Tag.EncodingFunction (node Tag.NameUnscoped (node Tag.UnscopedNameUnqualified (node Tag.UnqualifiedNameSource (node Tag.SourceName (node Tag.Identifier (place 3 6 end) end) (node Tag.AbiTags (node Tag.Several end end) end)) end) end) (node Tag.BareFunctionType (node Tag.Several (node Tag.TypeHandleBuiltin (node Tag.BuiltinTypeStandard (chosen 1 0 end) end) end) end) end)) (node Tag.Present (node Tag.NameUnscoped (node Tag.UnscopedNameUnqualified (node Tag.UnqualifiedNameClosureType (node Tag.ClosureTypeName (node Tag.LambdaSig (node Tag.Several (node Tag.BackReference (ref N 0 end) (node Tag.BackReference (ref N 2 end) end)) end) (node Tag.Absent end end)) (node Tag.AbiTags (node Tag.Several end end) end)) end) end) end) (node Tag.Absent end end))) end) end) end) end) end) ∷ [])) 20
 unfolding measure_from run_rule rule entry_at
-r16 = by_measure refl
+template_args_1 = by_measure refl
 
-r17 : Reads Row.array_type false (codes "AszLi1E_i") (Read 9 (node Tag.ArrayTypeDimensionExpression (node Tag.ExpressionSizeofExpr (node Tag.ExpressionPrimary (node Tag.ExprPrimaryLiteral (node Tag.TypeHandleBuiltin (node Tag.BuiltinTypeStandard (chosen 1 8 end) end) (place 5 6 end)) end) end) (node Tag.TypeHandleBuiltin (node Tag.BuiltinTypeStandard (chosen 1 8 end) end) end)) end) 0 0) 7
+local_name_1 : Reads Row.local_name false (codes "_") (Refused Text) 1
 unfolding measure_from run_rule rule entry_at
-r17 = by_measure refl
+local_name_1 = by_measure refl
 
-r18 : Reads Row.array_type false (codes "AplT_T__i1a") (Read 9 (node Tag.ArrayTypeDimensionExpression (node Tag.ExpressionBinary (node Tag.OperatorNameSimple (chosen 0 9 end) (node Tag.ExpressionTemplateParam (node Tag.TemplateParam (number (pos 0) end) end) (node Tag.ExpressionTemplateParam (node Tag.TemplateParam (number (pos 0) end) end) end))) (node Tag.TypeHandleBuiltin (node Tag.BuiltinTypeStandard (chosen 1 8 end) end) end)) end) 0 0) 6
+expr_primary_2 : Reads Row.expr_primary false (codes "_l5E") (Refused Text) 1
 unfolding measure_from run_rule rule entry_at
-r18 = by_measure refl
+expr_primary_2 = by_measure refl
 
-r19 : Reads Row.array_type false (codes "AsPDpT_E_iE") (Read 10 (node Tag.ArrayTypeDimensionExpression (node Tag.ExpressionSizeofCapturedTemplatePack (node Tag.Several (node Tag.TemplateArgTypeArg (node Tag.BackReference (ref N 1 end) end) end) end) (node Tag.TypeHandleBuiltin (node Tag.BuiltinTypeStandard (chosen 1 8 end) end) end)) end) 2 0) 12
+encoding_1 : Reads Row.encoding false (codes "1fIXtl1DLM7DerivedKi0ELi1EEEEvv1a") (Read 33 (node Tag.EncodingFunction (node Tag.NameUnscopedTemplate (node Tag.BackReference (ref N 0 end) (node Tag.TemplateArgs (mark 2 (node Tag.Several (node Tag.TemplateArgExpression (node Tag.ExpressionConversionBraced (node Tag.BackReference (ref N 1 end) (node Tag.Several (node Tag.ExpressionPrimary (node Tag.ExprPrimaryLiteral (node Tag.BackReference (ref N 4 end) (place 20 21 end)) end) (node Tag.ExpressionPrimary (node Tag.ExprPrimaryLiteral (node Tag.TypeHandleBuiltin (node Tag.BuiltinTypeStandard (chosen 1 8 end) end) (place 24 25 end)) end) end)) end)) end) end) end)) end)) (node Tag.BareFunctionType (node Tag.Several (node Tag.TypeHandleBuiltin (node Tag.BuiltinTypeStandard (chosen 1 0 end) end) (node Tag.TypeHandleBuiltin (node Tag.BuiltinTypeStandard (chosen 1 0 end) end) (node Tag.BackReference (ref N 5 end) end))) end) end)) end) (entry N (node Tag.SubstitutableUnscopedTemplateName (node Tag.UnscopedTemplateName (node Tag.UnscopedNameUnqualified (node Tag.UnqualifiedNameSource (node Tag.SourceName (node Tag.Identifier (place 1 2 end) end) (node Tag.AbiTags (node Tag.Several end end) end)) end) end) end) end) ∷ entry N (node Tag.SubstitutableTypeNode (node Tag.TypeNodeClassEnum (node Tag.ClassEnumTypeNamed (node Tag.NameUnscoped (node Tag.UnscopedNameUnqualified (node Tag.UnqualifiedNameSource (node Tag.SourceName (node Tag.Identifier (place 7 8 end) end) (node Tag.AbiTags (node Tag.Several end end) end)) end) end) end) end) end) end) ∷ entry N (node Tag.SubstitutableTypeNode (node Tag.TypeNodeClassEnum (node Tag.ClassEnumTypeNamed (node Tag.NameUnscoped (node Tag.UnscopedNameUnqualified (node Tag.UnqualifiedNameSource (node Tag.SourceName (node Tag.Identifier (place 11 18 end) end) (node Tag.AbiTags (node Tag.Several end end) end)) end) end) end) end) end) end) ∷ entry N (node Tag.SubstitutableTypeNode (node Tag.TypeNodeQualified (node Tag.CvQualifiers (flag false (flag false (flag true end))) (node Tag.TypeHandleBuiltin (node Tag.BuiltinTypeStandard (chosen 1 8 end) end) end)) end) end) ∷ entry N (node Tag.SubstitutableTypeNode (node Tag.TypeNodePointerToMember (node Tag.PointerToMemberType (node Tag.BackReference (ref N 2 end) (node Tag.BackReference (ref N 3 end) end)) end) end) end) ∷ entry N (node Tag.SubstitutableTypeNode (node Tag.TypeNodeClassEnum (node Tag.ClassEnumTypeNamed (node Tag.NameUnscoped (node Tag.UnscopedNameUnqualified (node Tag.UnqualifiedNameSource (node Tag.SourceName (node Tag.Identifier (place 32 33 end) end) (node Tag.AbiTags (node Tag.Several end end) end)) end) end) end) end) end) end) ∷ [])) 16
 unfolding measure_from run_rule rule entry_at
-r19 = by_measure refl
+encoding_1 = by_measure refl
 
-r20 : Reads Row.array_type false (codes "AszfL0p__i1a") (Read 10 (node Tag.ArrayTypeDimensionExpression (node Tag.ExpressionSizeofExpr (node Tag.ExpressionFunctionParam (node Tag.FunctionParam (number (pos 0) (node Tag.CvQualifiers (flag false (flag false (flag false end))) (node Tag.Present (number (pos 0) end) end))) end) end) (node Tag.TypeHandleBuiltin (node Tag.BuiltinTypeStandard (chosen 1 8 end) end) end)) end) 0 0) 5
+clone_type_identifier_1 : Reads Row.clone_type_identifier false (codes "_omp_f_") (Read 7 (node Tag.CloneTypeIdentifier (place 0 7 end) end) []) 1
 unfolding measure_from run_rule rule entry_at
-r20 = by_measure refl
+clone_type_identifier_1 = by_measure refl
 
-r21 : Reads Row.array_type false (codes "AquT_Li1ELi2E_i1a") (Read 15 (node Tag.ArrayTypeDimensionExpression (node Tag.ExpressionTernary (node Tag.OperatorNameSimple (chosen 0 46 end) (node Tag.ExpressionTemplateParam (node Tag.TemplateParam (number (pos 0) end) end) (node Tag.ExpressionPrimary (node Tag.ExprPrimaryLiteral (node Tag.TypeHandleBuiltin (node Tag.BuiltinTypeStandard (chosen 1 8 end) end) (place 7 8 end)) end) (node Tag.ExpressionPrimary (node Tag.ExprPrimaryLiteral (node Tag.TypeHandleBuiltin (node Tag.BuiltinTypeStandard (chosen 1 8 end) end) (place 11 12 end)) end) end)))) (node Tag.TypeHandleBuiltin (node Tag.BuiltinTypeStandard (chosen 1 8 end) end) end)) end) 0 0) 7
+function_type_3 : Reads Row.function_type false (codes "VKF_vOE") (Refused Text) 10
 unfolding measure_from run_rule rule entry_at
-r21 = by_measure refl
+function_type_3 = by_measure refl
 
-r22 : Reads Row.array_type false (codes "E") (Refused Text) 1
+number_1 : Reads Row.number false (codes "n41a") (Read 3 (number (negsuc 40) end) []) 1
 unfolding measure_from run_rule rule entry_at
-r22 = by_measure refl
+number_1 = by_measure refl
 
-r23 : Reads Row.array_type false (codes "A1") (Refused End) 1
+special_name_2 : Reads Row.special_name false (codes "_W1a") (Refused Text) 1
 unfolding measure_from run_rule rule entry_at
-r23 = by_measure refl
+special_name_2 = by_measure refl
 
-r24 : ReadsUnder 17 0 Row.array_type false (codes "A2_PM1XKFKPA3_ilE") TooDeep
-unfolding read_from run_rule rule entry_at
-r24 = refl
+local_name_2 : Reads Row.local_name false (codes "Z1HvEN1S1IE") (Read 11 (node Tag.LocalNameRelative (node Tag.EncodingFunction (node Tag.NameUnscoped (node Tag.UnscopedNameUnqualified (node Tag.UnqualifiedNameSource (node Tag.SourceName (node Tag.Identifier (place 2 3 end) end) (node Tag.AbiTags (node Tag.Several end end) end)) end) end) (node Tag.BareFunctionType (node Tag.Several (node Tag.TypeHandleBuiltin (node Tag.BuiltinTypeStandard (chosen 1 0 end) end) end) end) end)) (node Tag.Present (node Tag.NameNested (node Tag.NestedNameUnqualified (node Tag.CvQualifiers (flag false (flag false (flag false end))) (node Tag.Absent end (node Tag.Present (node Tag.BackReference (ref N 0 end) end) (node Tag.UnqualifiedNameSource (node Tag.SourceName (node Tag.Identifier (place 9 10 end) end) (node Tag.AbiTags (node Tag.Several end end) end)) end)))) end) end) (node Tag.Absent end end))) end) (entry N (node Tag.SubstitutablePrefix (node Tag.PrefixUnqualified (node Tag.UnqualifiedNameSource (node Tag.SourceName (node Tag.Identifier (place 7 8 end) end) (node Tag.AbiTags (node Tag.Several end end) end)) end) end) end) ∷ entry U (node Tag.SubstitutablePrefix (node Tag.PrefixNested (node Tag.BackReference (ref N 0 end) (node Tag.UnqualifiedNameSource (node Tag.SourceName (node Tag.Identifier (place 9 10 end) end) (node Tag.AbiTags (node Tag.Several end end) end)) end)) end) end) ∷ [])) 11
+unfolding measure_from run_rule rule entry_at
+local_name_2 = by_measure refl
 
-r25 : ReadsUnder 18 0 Row.array_type false (codes "A2_PM1XKFKPA3_ilE") (Read 17 (node Tag.ArrayTypeDimensionNumber (number (pos 2) (node Tag.BackReference (ref N 6 end) end)) end) 7 0)
-unfolding read_from run_rule rule entry_at
-r25 = refl
+type_handle_1 : Reads Row.type_handle false (codes "PPP_i") (Refused Text) 11
+unfolding measure_from run_rule rule entry_at
+type_handle_1 = by_measure refl
 
-r26 : Reads Row.bare_function_type false (codes "e") (Read 1 (node Tag.BareFunctionType (node Tag.Several (node Tag.TypeHandleBuiltin (node Tag.BuiltinTypeStandard (chosen 1 18 end) end) end) end) end) 0 0) 9
+pointer_to_member_type_1 : Reads Row.pointer_to_member_type false (codes "M1GFivEE") (Read 7 (node Tag.PointerToMemberType (node Tag.BackReference (ref N 0 end) (node Tag.BackReference (ref N 1 end) end)) end) (entry N (node Tag.SubstitutableTypeNode (node Tag.TypeNodeClassEnum (node Tag.ClassEnumTypeNamed (node Tag.NameUnscoped (node Tag.UnscopedNameUnqualified (node Tag.UnqualifiedNameSource (node Tag.SourceName (node Tag.Identifier (place 2 3 end) end) (node Tag.AbiTags (node Tag.Several end end) end)) end) end) end) end) end) end) ∷ entry N (node Tag.SubstitutableTypeNode (node Tag.TypeNodeFunction (node Tag.FunctionType (node Tag.CvQualifiers (flag false (flag false (flag false end))) (node Tag.Absent end (flag false (flag false (node Tag.BareFunctionType (node Tag.Several (node Tag.TypeHandleBuiltin (node Tag.BuiltinTypeStandard (chosen 1 8 end) end) (node Tag.TypeHandleBuiltin (node Tag.BuiltinTypeStandard (chosen 1 0 end) end) end)) end) (node Tag.Absent end end)))))) end) end) end) ∷ [])) 12
 unfolding measure_from run_rule rule entry_at
-r26 = by_measure refl
+pointer_to_member_type_1 = by_measure refl
 
-r27 : Reads Row.bare_function_type false (codes "Ki") (Read 2 (node Tag.BareFunctionType (node Tag.Several (node Tag.BackReference (ref N 0 end) end) end) end) 1 0) 9
+base_unresolved_name_2 : Reads Row.base_unresolved_name false (codes "1g") (Read 2 (node Tag.BaseUnresolvedNameName (node Tag.SimpleId (node Tag.SourceName (node Tag.Identifier (place 1 2 end) end) (node Tag.Absent end end)) end) end) []) 4
 unfolding measure_from run_rule rule entry_at
-r27 = by_measure refl
+base_unresolved_name_2 = by_measure refl
 
-r28 : Reads Row.bare_function_type false (codes "Sd") (Read 2 (node Tag.BareFunctionType (node Tag.Several (node Tag.WellKnown (chosen 2 6 end) end) end) end) 0 0) 9
+base_unresolved_name_3 : Reads Row.base_unresolved_name false (codes "onp_") (Refused Text) 3
 unfolding measure_from run_rule rule entry_at
-r28 = by_measure refl
+base_unresolved_name_3 = by_measure refl
 
-r29 : Reads Row.bare_function_type false (codes "DF32xDF64xDF128xCDF32xVbE") (Read 24 (node Tag.BareFunctionType (node Tag.Several (node Tag.TypeHandleBuiltin (node Tag.BuiltinTypeParametric (node Tag.ParametricBuiltinTypeFloatNx (number (pos 32) end) end) end) (node Tag.TypeHandleBuiltin (node Tag.BuiltinTypeParametric (node Tag.ParametricBuiltinTypeFloatNx (number (pos 64) end) end) end) (node Tag.TypeHandleBuiltin (node Tag.BuiltinTypeParametric (node Tag.ParametricBuiltinTypeFloatNx (number (pos 128) end) end) end) (node Tag.BackReference (ref N 0 end) (node Tag.BackReference (ref N 1 end) end))))) end) end) 2 0) 9
+simple_operator_name_1 : Reads Row.simple_operator_name false (codes "_l") (Refused Text) 1
 unfolding measure_from run_rule rule entry_at
-r29 = by_measure refl
+simple_operator_name_1 = by_measure refl
 
-r30 : Reads Row.bare_function_type false (codes "1") (Refused End) 9
+expression_1 : Reads Row.expression false (codes "Lc66EE") (Read 5 (node Tag.ExpressionPrimary (node Tag.ExprPrimaryLiteral (node Tag.TypeHandleBuiltin (node Tag.BuiltinTypeStandard (chosen 1 3 end) end) (place 2 4 end)) end) end) []) 5
 unfolding measure_from run_rule rule entry_at
-r30 = by_measure refl
+expression_1 = by_measure refl
 
-r31 : Reads Row.bare_function_type false (codes "D_") (Refused Text) 9
+type_handle_2 : Reads Row.type_handle false (codes "DTcvT_dtdtL_ZNS_1zEE1s1iEE") (Read 25 (node Tag.BackReference (ref N 1 end) end) (entry N (node Tag.SubstitutableTypeNode (node Tag.TypeNodeTemplateParam (node Tag.TemplateParam (number (pos 0) end) end) end) end) ∷ entry U (node Tag.SubstitutablePrefix (node Tag.PrefixNested (node Tag.BackReference (ref N 0 end) (node Tag.UnqualifiedNameSource (node Tag.SourceName (node Tag.Identifier (place 17 18 end) end) (node Tag.AbiTags (node Tag.Several end end) end)) end)) end) end) ∷ entry N (node Tag.SubstitutableTypeNode (node Tag.TypeNodeDecltype (node Tag.DecltypeExpression (node Tag.ExpressionConversionOne (node Tag.BackReference (ref N 0 end) (node Tag.ExpressionMember (node Tag.ExpressionMember (node Tag.ExpressionPrimary (node Tag.ExprPrimaryExternal (node Tag.MangledNameEncoding (node Tag.EncodingData (node Tag.NameNested (node Tag.NestedNameUnqualified (node Tag.CvQualifiers (flag false (flag false (flag false end))) (node Tag.Absent end (node Tag.Present (node Tag.BackReference (ref N 0 end) end) (node Tag.UnqualifiedNameSource (node Tag.SourceName (node Tag.Identifier (place 17 18 end) end) (node Tag.AbiTags (node Tag.Several end end) end)) end)))) end) end) (node Tag.Several end end)) end) end) (node Tag.MemberName (node Tag.NameUnscoped (node Tag.UnscopedNameUnqualified (node Tag.UnqualifiedNameSource (node Tag.SourceName (node Tag.Identifier (place 21 22 end) end) (node Tag.AbiTags (node Tag.Several end end) end)) end) end) end) end)) (node Tag.MemberName (node Tag.NameUnscoped (node Tag.UnscopedNameUnqualified (node Tag.UnqualifiedNameSource (node Tag.SourceName (node Tag.Identifier (place 23 24 end) end) (node Tag.AbiTags (node Tag.Several end end) end)) end) end) end) end)) end)) end) end) end) end) ∷ [])) 18
 unfolding measure_from run_rule rule entry_at
-r31 = by_measure refl
+type_handle_2 = by_measure refl
 
-r32 : ReadsUnder 20 0 Row.bare_function_type false (codes "v1SIXadsrT_onmiIdEE") TooDeep
-unfolding read_from run_rule rule entry_at
-r32 = refl
+unscoped_name_2 : Reads Row.unscoped_name false (codes "11__In") (Refused Text) 4
+unfolding measure_from run_rule rule entry_at
+unscoped_name_2 = by_measure refl
 
-r33 : ReadsUnder 21 0 Row.bare_function_type false (codes "v1SIXadsrT_onmiIdEE") (Read 1 (node Tag.BareFunctionType (node Tag.Several (node Tag.TypeHandleBuiltin (node Tag.BuiltinTypeStandard (chosen 1 0 end) end) end) end) end) 0 0)
-unfolding read_from run_rule rule entry_at
-r33 = refl
+unresolved_name_1 : Reads Row.unresolved_name false (codes "1fIPT_EE") (Read 7 (node Tag.UnresolvedNameName (node Tag.BaseUnresolvedNameName (node Tag.SimpleId (node Tag.SourceName (node Tag.Identifier (place 1 2 end) end) (node Tag.Present (node Tag.TemplateArgs (mark 2 (node Tag.Several (node Tag.TemplateArgTypeArg (node Tag.BackReference (ref N 1 end) end) end) end)) end) end)) end) end) end) (entry N (node Tag.SubstitutableTypeNode (node Tag.TypeNodeTemplateParam (node Tag.TemplateParam (number (pos 0) end) end) end) end) ∷ entry N (node Tag.SubstitutableTypeNode (node Tag.TypeNodePointerTo (node Tag.BackReference (ref N 0 end) end) end) end) ∷ [])) 14
+unfolding measure_from run_rule rule entry_at
+unresolved_name_1 = by_measure refl
 
-r34 : Reads Row.base_unresolved_name false (codes "1P") (Read 2 (node Tag.BaseUnresolvedNameName (node Tag.SimpleId (node Tag.SourceName (node Tag.Identifier (place 1 2 end) end) (node Tag.Absent end end)) end) end) 0 0) 4
+expr_primary_3 : Reads Row.expr_primary false (codes "Lsn32768") (Refused End) 4
 unfolding measure_from run_rule rule entry_at
-r34 = by_measure refl
+expr_primary_3 = by_measure refl
 
-r35 : Reads Row.base_unresolved_name false (codes "dn1_") (Read 4 (node Tag.BaseUnresolvedNameDestructor (node Tag.DestructorNameName (node Tag.SimpleId (node Tag.SourceName (node Tag.Identifier (place 3 4 end) end) (node Tag.Absent end end)) end) end) end) 0 0) 5
+name_1 : Reads Row.name false (codes "NO1a1b_") (Refused Text) 7
 unfolding measure_from run_rule rule entry_at
-r35 = by_measure refl
+name_1 = by_measure refl
 
-r36 : Reads Row.base_unresolved_name false (codes "onan") (Read 4 (node Tag.BaseUnresolvedNameOperator (node Tag.OperatorNameSimple (chosen 0 14 end) (node Tag.Absent end end)) end) 0 0) 3
+array_type_1 : Reads Row.array_type false (codes "AsPDp") (Refused Text) 12
 unfolding measure_from run_rule rule entry_at
-r36 = by_measure refl
+array_type_1 = by_measure refl
 
-r37 : Reads Row.base_unresolved_name false (codes "1_IiE") (Read 5 (node Tag.BaseUnresolvedNameName (node Tag.SimpleId (node Tag.SourceName (node Tag.Identifier (place 1 2 end) end) (node Tag.Present (node Tag.TemplateArgs (mark 2 (node Tag.Several (node Tag.TemplateArgTypeArg (node Tag.TypeHandleBuiltin (node Tag.BuiltinTypeStandard (chosen 1 8 end) end) end) end) end)) end) end)) end) end) 0 0) 12
+abi_tag_1 : Reads Row.abi_tag false (codes "B5mya_i") (Read 7 (node Tag.AbiTag (node Tag.SourceName (node Tag.Identifier (place 2 7 end) end) end) end) []) 3
 unfolding measure_from run_rule rule entry_at
-r37 = by_measure refl
+abi_tag_1 = by_measure refl
 
-r38 : Reads Row.base_unresolved_name false (codes "1CIT_E") (Read 6 (node Tag.BaseUnresolvedNameName (node Tag.SimpleId (node Tag.SourceName (node Tag.Identifier (place 1 2 end) end) (node Tag.Present (node Tag.TemplateArgs (mark 2 (node Tag.Several (node Tag.TemplateArgTypeArg (node Tag.BackReference (ref N 0 end) end) end) end)) end) end)) end) end) 1 0) 12
+prefix_handle_1 : Reads Row.prefix_handle false (codes "1C1fI_E") (Refused Text) 12
 unfolding measure_from run_rule rule entry_at
-r38 = by_measure refl
+prefix_handle_1 = by_measure refl
 
-r39 : Reads Row.base_unresolved_name false (codes "oncviE") (Read 5 (node Tag.BaseUnresolvedNameOperator (node Tag.OperatorNameConversion (node Tag.TypeHandleBuiltin (node Tag.BuiltinTypeStandard (chosen 1 8 end) end) end) (node Tag.Absent end end)) end) 0 0) 5
+seq_id_1 : Reads Row.seq_id false (codes "E") (Read 1 (node Tag.SeqId (number (pos 14) end) end) []) 1
 unfolding measure_from run_rule rule entry_at
-r39 = by_measure refl
+seq_id_1 = by_measure refl
 
-r40 : Reads Row.base_unresolved_name false (codes "dnDtfp_E1a") (Read 8 (node Tag.BaseUnresolvedNameDestructor (node Tag.DestructorNameUnresolved (node Tag.BackReference (ref N 0 end) end) end) end) 1 0) 7
+standard_builtin_type_1 : Reads Row.standard_builtin_type false (codes "DSDRiE") (Read 5 (chosen 1 52 end) []) 1
 unfolding measure_from run_rule rule entry_at
-r40 = by_measure refl
+standard_builtin_type_1 = by_measure refl
 
-r41 : Reads Row.base_unresolved_name false (codes "1") (Refused End) 3
+well_known_component_1 : Reads Row.well_known_component false (codes "StE") (Read 2 (chosen 2 0 end) []) 1
 unfolding measure_from run_rule rule entry_at
-r41 = by_measure refl
+well_known_component_1 = by_measure refl
 
-r42 : Reads Row.base_unresolved_name false (codes "3f") (Refused Text) 3
+template_args_2 : Reads Row.template_args false (codes "IXeqT_") (Refused End) 8
 unfolding measure_from run_rule rule entry_at
-r42 = by_measure refl
+template_args_2 = by_measure refl
 
-r43 : ReadsUnder 14 0 Row.base_unresolved_name false (codes "1fIL") TooDeep
-unfolding read_from run_rule rule entry_at
-r43 = refl
+decltype_1 : Reads Row.decltype false (codes "DTtlT_Li1EEE") (Read 12 (node Tag.DecltypeExpression (node Tag.ExpressionConversionBraced (node Tag.BackReference (ref N 0 end) (node Tag.Several (node Tag.ExpressionPrimary (node Tag.ExprPrimaryLiteral (node Tag.TypeHandleBuiltin (node Tag.BuiltinTypeStandard (chosen 1 8 end) end) (place 8 9 end)) end) end) end)) end) end) (entry N (node Tag.SubstitutableTypeNode (node Tag.TypeNodeTemplateParam (node Tag.TemplateParam (number (pos 0) end) end) end) end) ∷ [])) 10
+unfolding measure_from run_rule rule entry_at
+decltype_1 = by_measure refl
 
-r44 : ReadsUnder 15 0 Row.base_unresolved_name false (codes "1fIL") (Read 2 (node Tag.BaseUnresolvedNameName (node Tag.SimpleId (node Tag.SourceName (node Tag.Identifier (place 1 2 end) end) (node Tag.Absent end end)) end) end) 0 0)
-unfolding read_from run_rule rule entry_at
-r44 = refl
+simple_operator_name_2 : Reads Row.simple_operator_name false (codes "pm1a") (Read 2 (chosen 0 42 end) []) 1
+unfolding measure_from run_rule rule entry_at
+simple_operator_name_2 = by_measure refl
 
-r45 : Reads Row.builtin_type false (codes "e") (Read 1 (node Tag.BuiltinTypeStandard (chosen 1 18 end) end) 0 0) 2
+local_name_3 : Reads Row.local_name false (codes "Z1fvE1a") (Read 7 (node Tag.LocalNameRelative (node Tag.EncodingFunction (node Tag.NameUnscoped (node Tag.UnscopedNameUnqualified (node Tag.UnqualifiedNameSource (node Tag.SourceName (node Tag.Identifier (place 2 3 end) end) (node Tag.AbiTags (node Tag.Several end end) end)) end) end) (node Tag.BareFunctionType (node Tag.Several (node Tag.TypeHandleBuiltin (node Tag.BuiltinTypeStandard (chosen 1 0 end) end) end) end) end)) (node Tag.Present (node Tag.NameUnscoped (node Tag.UnscopedNameUnqualified (node Tag.UnqualifiedNameSource (node Tag.SourceName (node Tag.Identifier (place 6 7 end) end) (node Tag.AbiTags (node Tag.Several end end) end)) end) end) end) (node Tag.Absent end end))) end) []) 11
 unfolding measure_from run_rule rule entry_at
-r45 = by_measure refl
+local_name_3 = by_measure refl
 
-r46 : Reads Row.builtin_type false (codes "DU9_") (Read 4 (node Tag.BuiltinTypeParametric (node Tag.ParametricBuiltinTypeUnsignedBitInt (number (pos 9) end) end) end) 0 0) 2
+expression_2 : Reads Row.expression false (codes "sP") (Refused End) 10
 unfolding measure_from run_rule rule entry_at
-r46 = by_measure refl
+expression_2 = by_measure refl
 
-r47 : Reads Row.builtin_type false (codes "DB8_E") (Read 4 (node Tag.BuiltinTypeParametric (node Tag.ParametricBuiltinTypeSignedBitInt (number (pos 8) end) end) end) 0 0) 2
+name_2 : Reads Row.name false (codes "1") (Refused Text) 6
 unfolding measure_from run_rule rule entry_at
-r47 = by_measure refl
+name_2 = by_measure refl
 
-r48 : Reads Row.builtin_type false (codes "DF32x") (Read 5 (node Tag.BuiltinTypeParametric (node Tag.ParametricBuiltinTypeFloatNx (number (pos 32) end) end) end) 0 0) 2
+type_handle_3 : Reads Row.type_handle false (codes "_") (Refused End) 8
 unfolding measure_from run_rule rule entry_at
-r48 = by_measure refl
+type_handle_3 = by_measure refl
 
-r49 : Reads Row.builtin_type false (codes "DF3__") (Read 4 (node Tag.BuiltinTypeParametric (node Tag.ParametricBuiltinTypeFloatN (number (pos 3) end) end) end) 0 0) 2
+unresolved_name_2 : Reads Row.unresolved_name false (codes "onplIT_EE") (Read 8 (node Tag.UnresolvedNameName (node Tag.BaseUnresolvedNameOperator (node Tag.OperatorNameSimple (chosen 0 9 end) (node Tag.Present (node Tag.TemplateArgs (mark 4 (node Tag.Several (node Tag.TemplateArgTypeArg (node Tag.BackReference (ref N 0 end) end) end) end)) end) end)) end) end) (entry N (node Tag.SubstitutableTypeNode (node Tag.TypeNodeTemplateParam (node Tag.TemplateParam (number (pos 0) end) end) end) end) ∷ [])) 12
 unfolding measure_from run_rule rule entry_at
-r49 = by_measure refl
+unresolved_name_2 = by_measure refl
 
-r50 : Reads Row.builtin_type false (codes "D") (Refused End) 2
+number_2 : Reads Row.number false (codes "_12") (Refused Text) 1
 unfolding measure_from run_rule rule entry_at
-r50 = by_measure refl
+number_2 = by_measure refl
 
-r51 : Reads Row.builtin_type false (codes "E") (Refused Text) 2
+decltype_2 : Reads Row.decltype false (codes "DTpptrE") (Read 7 (node Tag.DecltypeExpression (node Tag.ExpressionUnary (node Tag.OperatorNameSimple (chosen 0 39 end) (node Tag.ExpressionRethrow end end)) end) end) []) 6
 unfolding measure_from run_rule rule entry_at
-r51 = by_measure refl
+decltype_2 = by_measure refl
 
-r52 : ReadsUnder 2 0 Row.builtin_type false (codes "D") TooDeep
-unfolding read_from run_rule rule entry_at
-r52 = refl
+name_3 : Reads Row.name false (codes "_h") (Refused Text) 6
+unfolding measure_from run_rule rule entry_at
+name_3 = by_measure refl
 
-r53 : ReadsUnder 3 0 Row.builtin_type false (codes "D") (Refused End)
-unfolding read_from run_rule rule entry_at
-r53 = refl
+type_handle_4 : Reads Row.type_handle false (codes "MNS_1QEKi1a") (Refused Text) 10
+unfolding measure_from run_rule rule entry_at
+type_handle_4 = by_measure refl
 
-r54 : Reads Row.call_offset false (codes "h0_E") (Read 3 (node Tag.CallOffsetNonVirtual (node Tag.NvOffset (number (pos 0) end) end) end) 0 0) 3
+function_type_4 : Reads Row.function_type false (codes "FbP6sql") (Refused Text) 11
 unfolding measure_from run_rule rule entry_at
-r54 = by_measure refl
+function_type_4 = by_measure refl
 
-r55 : Reads Row.call_offset false (codes "v0_n16_") (Read 7 (node Tag.CallOffsetVirtual (node Tag.VOffset (number (pos 0) (number (negsuc 15) end)) end) end) 0 0) 3
+class_enum_type_2 : Reads Row.class_enum_type false (codes "1xE") (Read 2 (node Tag.ClassEnumTypeNamed (node Tag.NameUnscoped (node Tag.UnscopedNameUnqualified (node Tag.UnqualifiedNameSource (node Tag.SourceName (node Tag.Identifier (place 1 2 end) end) (node Tag.AbiTags (node Tag.Several end end) end)) end) end) end) end) []) 6
 unfolding measure_from run_rule rule entry_at
-r55 = by_measure refl
+class_enum_type_2 = by_measure refl
 
-r56 : Reads Row.call_offset false (codes "E") (Refused Text) 1
+name_4 : Reads Row.name false (codes "N1AI1BED2E1a") (Read 10 (node Tag.NameNested (node Tag.NestedNameUnqualified (node Tag.CvQualifiers (flag false (flag false (flag false end))) (node Tag.Absent end (node Tag.Present (node Tag.BackReference (ref N 2 end) end) (node Tag.UnqualifiedNameCtorDtor (node Tag.CtorDtorNameBaseDestructor end (node Tag.AbiTags (node Tag.Several end end) end)) end)))) end) end) (entry N (node Tag.SubstitutablePrefix (node Tag.PrefixUnqualified (node Tag.UnqualifiedNameSource (node Tag.SourceName (node Tag.Identifier (place 2 3 end) end) (node Tag.AbiTags (node Tag.Several end end) end)) end) end) end) ∷ entry N (node Tag.SubstitutableTypeNode (node Tag.TypeNodeClassEnum (node Tag.ClassEnumTypeNamed (node Tag.NameUnscoped (node Tag.UnscopedNameUnqualified (node Tag.UnqualifiedNameSource (node Tag.SourceName (node Tag.Identifier (place 5 6 end) end) (node Tag.AbiTags (node Tag.Several end end) end)) end) end) end) end) end) end) ∷ entry N (node Tag.SubstitutablePrefix (node Tag.PrefixTemplate (node Tag.BackReference (ref N 0 end) (node Tag.TemplateArgs (mark 3 (node Tag.Several (node Tag.TemplateArgTypeArg (node Tag.BackReference (ref N 1 end) end) end) end)) end)) end) end) ∷ entry U (node Tag.SubstitutablePrefix (node Tag.PrefixNested (node Tag.BackReference (ref N 2 end) (node Tag.UnqualifiedNameCtorDtor (node Tag.CtorDtorNameBaseDestructor end (node Tag.AbiTags (node Tag.Several end end) end)) end)) end) end) ∷ [])) 14
 unfolding measure_from run_rule rule entry_at
-r56 = by_measure refl
+name_4 = by_measure refl
 
-r57 : Reads Row.call_offset false (codes "h") (Refused End) 3
+unqualified_name_1 : Reads Row.unqualified_name false (codes "_I21b") (Refused Text) 3
 unfolding measure_from run_rule rule entry_at
-r57 = by_measure refl
+unqualified_name_1 = by_measure refl
 
-r58 : ReadsUnder 3 0 Row.call_offset false (codes "h") TooDeep
-unfolding read_from run_rule rule entry_at
-r58 = refl
+name_5 : Reads Row.name false (codes "N_OpsmlE") (Refused Text) 6
+unfolding measure_from run_rule rule entry_at
+name_5 = by_measure refl
 
-r59 : ReadsUnder 4 0 Row.call_offset false (codes "h") (Refused End)
-unfolding read_from run_rule rule entry_at
-r59 = refl
+template_arg_1 : Reads Row.template_arg false (codes "JLi1ELi") (Refused Text) 10
+unfolding measure_from run_rule rule entry_at
+template_arg_1 = by_measure refl
 
-r60 : Reads Row.class_enum_type false (codes "1B") (Read 2 (node Tag.ClassEnumTypeNamed (node Tag.NameUnscoped (node Tag.UnscopedNameUnqualified (node Tag.UnqualifiedNameSource (node Tag.SourceName (node Tag.Identifier (place 1 2 end) end) (node Tag.AbiTags (node Tag.Several end end) end)) end) end) end) end) 0 0) 6
+name_6 : Reads Row.name false (codes "1JE") (Read 2 (node Tag.NameUnscoped (node Tag.UnscopedNameUnqualified (node Tag.UnqualifiedNameSource (node Tag.SourceName (node Tag.Identifier (place 1 2 end) end) (node Tag.AbiTags (node Tag.Several end end) end)) end) end) end) []) 5
 unfolding measure_from run_rule rule entry_at
-r60 = by_measure refl
+name_6 = by_measure refl
 
-r61 : Reads Row.class_enum_type false (codes "1_IiE") (Read 5 (node Tag.ClassEnumTypeNamed (node Tag.NameUnscopedTemplate (node Tag.BackReference (ref N 0 end) (node Tag.TemplateArgs (mark 2 (node Tag.Several (node Tag.TemplateArgTypeArg (node Tag.TypeHandleBuiltin (node Tag.BuiltinTypeStandard (chosen 1 8 end) end) end) end) end)) end)) end) end) 1 0) 12
+builtin_type_2 : Reads Row.builtin_type false (codes "D_DAi") (Refused Text) 2
 unfolding measure_from run_rule rule entry_at
-r61 = by_measure refl
+builtin_type_2 = by_measure refl
 
-r62 : Reads Row.class_enum_type false (codes "1AB3ba_") (Read 7 (node Tag.ClassEnumTypeNamed (node Tag.NameUnscoped (node Tag.UnscopedNameUnqualified (node Tag.UnqualifiedNameSource (node Tag.SourceName (node Tag.Identifier (place 1 2 end) end) (node Tag.AbiTags (node Tag.Several (node Tag.AbiTag (node Tag.SourceName (node Tag.Identifier (place 4 7 end) end) end) end) end) end)) end) end) end) end) 0 0) 8
+nested_name_1 : Reads Row.nested_name false (codes "NS0__t4E") (Refused Bad) 5
 unfolding measure_from run_rule rule entry_at
-r62 = by_measure refl
+nested_name_1 = by_measure refl
 
-r63 : Reads Row.class_enum_type false (codes "1SILi4EE") (Read 8 (node Tag.ClassEnumTypeNamed (node Tag.NameUnscopedTemplate (node Tag.BackReference (ref N 0 end) (node Tag.TemplateArgs (mark 2 (node Tag.Several (node Tag.TemplateArgSimpleExpression (node Tag.ExprPrimaryLiteral (node Tag.TypeHandleBuiltin (node Tag.BuiltinTypeStandard (chosen 1 8 end) end) (place 5 6 end)) end) end) end)) end)) end) end) 1 0) 12
+standard_builtin_type_2 : Reads Row.standard_builtin_type false (codes "DS_Al") (Refused Text) 1
 unfolding measure_from run_rule rule entry_at
-r63 = by_measure refl
+standard_builtin_type_2 = by_measure refl
 
-r64 : Reads Row.class_enum_type false (codes "N1a1bIiEE") (Read 9 (node Tag.ClassEnumTypeNamed (node Tag.NameNested (node Tag.NestedNameTemplate (node Tag.CvQualifiers (flag false (flag false (flag false end))) (node Tag.Absent end (node Tag.NonSubstitution (ref U 0 end) end))) end) end) end) 2 1) 15
+lambda_sig_1 : Reads Row.lambda_sig false (codes "N1a1bE") (Read 6 (node Tag.LambdaSig (node Tag.Several (node Tag.BackReference (ref N 1 end) end) end) end) (entry N (node Tag.SubstitutablePrefix (node Tag.PrefixUnqualified (node Tag.UnqualifiedNameSource (node Tag.SourceName (node Tag.Identifier (place 2 3 end) end) (node Tag.AbiTags (node Tag.Several end end) end)) end) end) end) ∷ entry U (node Tag.SubstitutablePrefix (node Tag.PrefixNested (node Tag.BackReference (ref N 0 end) (node Tag.UnqualifiedNameSource (node Tag.SourceName (node Tag.Identifier (place 4 5 end) end) (node Tag.AbiTags (node Tag.Several end end) end)) end)) end) end) ∷ entry N (node Tag.SubstitutableTypeNode (node Tag.TypeNodeClassEnum (node Tag.ClassEnumTypeNamed (node Tag.NameNested (node Tag.NestedNameUnqualified (node Tag.CvQualifiers (flag false (flag false (flag false end))) (node Tag.Absent end (node Tag.Present (node Tag.BackReference (ref N 0 end) end) (node Tag.UnqualifiedNameSource (node Tag.SourceName (node Tag.Identifier (place 4 5 end) end) (node Tag.AbiTags (node Tag.Several end end) end)) end)))) end) end) end) end) end) ∷ [])) 10
 unfolding measure_from run_rule rule entry_at
-r64 = by_measure refl
+lambda_sig_1 = by_measure refl
 
-r65 : Reads Row.class_enum_type false (codes "1FIXtl1DEEE") (Read 11 (node Tag.ClassEnumTypeNamed (node Tag.NameUnscopedTemplate (node Tag.BackReference (ref N 0 end) (node Tag.TemplateArgs (mark 2 (node Tag.Several (node Tag.TemplateArgExpression (node Tag.ExpressionConversionBraced (node Tag.BackReference (ref N 1 end) (node Tag.Several end end)) end) end) end)) end)) end) end) 2 0) 12
+special_name_3 : Reads Row.special_name false (codes "G_1a0_") (Refused Text) 1
 unfolding measure_from run_rule rule entry_at
-r65 = by_measure refl
+special_name_3 = by_measure refl
 
-r66 : Reads Row.class_enum_type false (codes "1SIX1CIT_EEE") (Read 12 (node Tag.ClassEnumTypeNamed (node Tag.NameUnscopedTemplate (node Tag.BackReference (ref N 0 end) (node Tag.TemplateArgs (mark 2 (node Tag.Several (node Tag.TemplateArgExpression (node Tag.ExpressionUnresolvedName (node Tag.UnresolvedNameName (node Tag.BaseUnresolvedNameName (node Tag.SimpleId (node Tag.SourceName (node Tag.Identifier (place 5 6 end) end) (node Tag.Present (node Tag.TemplateArgs (mark 6 (node Tag.Several (node Tag.TemplateArgTypeArg (node Tag.BackReference (ref N 1 end) end) end) end)) end) end)) end) end) end) end) end) end)) end)) end) end) 2 0) 18
+class_enum_type_3 : Reads Row.class_enum_type false (codes "1AIT_E") (Read 6 (node Tag.ClassEnumTypeNamed (node Tag.NameUnscopedTemplate (node Tag.BackReference (ref N 0 end) (node Tag.TemplateArgs (mark 2 (node Tag.Several (node Tag.TemplateArgTypeArg (node Tag.BackReference (ref N 1 end) end) end) end)) end)) end) end) (entry N (node Tag.SubstitutableUnscopedTemplateName (node Tag.UnscopedTemplateName (node Tag.UnscopedNameUnqualified (node Tag.UnqualifiedNameSource (node Tag.SourceName (node Tag.Identifier (place 1 2 end) end) (node Tag.AbiTags (node Tag.Several end end) end)) end) end) end) end) ∷ entry N (node Tag.SubstitutableTypeNode (node Tag.TypeNodeTemplateParam (node Tag.TemplateParam (number (pos 0) end) end) end) end) ∷ [])) 12
 unfolding measure_from run_rule rule entry_at
-r66 = by_measure refl
+class_enum_type_3 = by_measure refl
 
-r67 : Reads Row.class_enum_type false (codes "NDtfp_E1aE1a") (Read 10 (node Tag.ClassEnumTypeNamed (node Tag.NameNested (node Tag.NestedNameUnqualified (node Tag.CvQualifiers (flag false (flag false (flag false end))) (node Tag.Absent end (node Tag.Present (node Tag.BackReference (ref N 0 end) end) (node Tag.UnqualifiedNameSource (node Tag.SourceName (node Tag.Identifier (place 8 9 end) end) (node Tag.AbiTags (node Tag.Several end end) end)) end)))) end) end) end) 1 1) 9
+template_args_3 : Reads Row.template_args false (codes "I1bIiEE1a") (Read 7 (node Tag.TemplateArgs (mark 0 (node Tag.Several (node Tag.TemplateArgTypeArg (node Tag.BackReference (ref N 1 end) end) end) end)) end) (entry N (node Tag.SubstitutableUnscopedTemplateName (node Tag.UnscopedTemplateName (node Tag.UnscopedNameUnqualified (node Tag.UnqualifiedNameSource (node Tag.SourceName (node Tag.Identifier (place 2 3 end) end) (node Tag.AbiTags (node Tag.Several end end) end)) end) end) end) end) ∷ entry N (node Tag.SubstitutableTypeNode (node Tag.TypeNodeClassEnum (node Tag.ClassEnumTypeNamed (node Tag.NameUnscopedTemplate (node Tag.BackReference (ref N 0 end) (node Tag.TemplateArgs (mark 3 (node Tag.Several (node Tag.TemplateArgTypeArg (node Tag.TypeHandleBuiltin (node Tag.BuiltinTypeStandard (chosen 1 8 end) end) end) end) end)) end)) end) end) end) end) ∷ [])) 15
 unfolding measure_from run_rule rule entry_at
-r67 = by_measure refl
+template_args_3 = by_measure refl
 
-r68 : Reads Row.class_enum_type false (codes "1AIXfRplT_LiEEE") (Read 15 (node Tag.ClassEnumTypeNamed (node Tag.NameUnscopedTemplate (node Tag.BackReference (ref N 0 end) (node Tag.TemplateArgs (mark 2 (node Tag.Several (node Tag.TemplateArgExpression (node Tag.ExpressionFold (node Tag.FoldExprBinaryRight (chosen 0 9 (node Tag.ExpressionTemplateParam (node Tag.TemplateParam (number (pos 0) end) end) (node Tag.ExpressionPrimary (node Tag.ExprPrimaryLiteral (node Tag.TypeHandleBuiltin (node Tag.BuiltinTypeStandard (chosen 1 8 end) end) (place 12 12 end)) end) end))) end) end) end) end)) end)) end) end) 1 0) 12
+abi_tag_2 : Reads Row.abi_tag false (codes "B4test1a") (Read 6 (node Tag.AbiTag (node Tag.SourceName (node Tag.Identifier (place 2 6 end) end) end) end) []) 3
 unfolding measure_from run_rule rule entry_at
-r68 = by_measure refl
+abi_tag_2 = by_measure refl
 
-r69 : Reads Row.class_enum_type false (codes "1AIT_L_Z4cmp2ccEEE") (Read 17 (node Tag.ClassEnumTypeNamed (node Tag.NameUnscopedTemplate (node Tag.BackReference (ref N 0 end) (node Tag.TemplateArgs (mark 2 (node Tag.Several (node Tag.TemplateArgTypeArg (node Tag.BackReference (ref N 1 end) end) (node Tag.TemplateArgSimpleExpression (node Tag.ExprPrimaryExternal (node Tag.MangledNameEncoding (node Tag.EncodingFunction (node Tag.NameUnscoped (node Tag.UnscopedNameUnqualified (node Tag.UnqualifiedNameSource (node Tag.SourceName (node Tag.Identifier (place 9 13 end) end) (node Tag.AbiTags (node Tag.Several end end) end)) end) end) (node Tag.BareFunctionType (node Tag.Several (node Tag.TypeHandleBuiltin (node Tag.BuiltinTypeStandard (chosen 1 3 end) end) (node Tag.TypeHandleBuiltin (node Tag.BuiltinTypeStandard (chosen 1 3 end) end) end)) end) end)) (node Tag.Several end end)) end) end) end)) end)) end)) end) end) 2 0) 16
+mangled_name_1 : Reads Row.mangled_name false (codes "_ZN5test211read_memberINS_1AEEEDtptcvPT_Li0E6memberERS2") (Read 52 (node Tag.MangledNameEncoding (node Tag.EncodingFunction (node Tag.NameNested (node Tag.NestedNameTemplate (node Tag.CvQualifiers (flag false (flag false (flag false end))) (node Tag.Absent end (node Tag.NonSubstitution (ref U 1 end) end))) end) (node Tag.BareFunctionType (node Tag.Several (node Tag.BackReference (ref N 5 end) end) end) end)) (node Tag.Several end end)) end) (entry N (node Tag.SubstitutablePrefix (node Tag.PrefixUnqualified (node Tag.UnqualifiedNameSource (node Tag.SourceName (node Tag.Identifier (place 4 9 end) end) (node Tag.AbiTags (node Tag.Several end end) end)) end) end) end) ∷ entry N (node Tag.SubstitutablePrefix (node Tag.PrefixNested (node Tag.BackReference (ref N 0 end) (node Tag.UnqualifiedNameSource (node Tag.SourceName (node Tag.Identifier (place 11 22 end) end) (node Tag.AbiTags (node Tag.Several end end) end)) end)) end) end) ∷ entry U (node Tag.SubstitutablePrefix (node Tag.PrefixNested (node Tag.BackReference (ref N 0 end) (node Tag.UnqualifiedNameSource (node Tag.SourceName (node Tag.Identifier (place 27 28 end) end) (node Tag.AbiTags (node Tag.Several end end) end)) end)) end) end) ∷ entry N (node Tag.SubstitutableTypeNode (node Tag.TypeNodeClassEnum (node Tag.ClassEnumTypeNamed (node Tag.NameNested (node Tag.NestedNameUnqualified (node Tag.CvQualifiers (flag false (flag false (flag false end))) (node Tag.Absent end (node Tag.Present (node Tag.BackReference (ref N 0 end) end) (node Tag.UnqualifiedNameSource (node Tag.SourceName (node Tag.Identifier (place 27 28 end) end) (node Tag.AbiTags (node Tag.Several end end) end)) end)))) end) end) end) end) end) ∷ entry U (node Tag.SubstitutablePrefix (node Tag.PrefixTemplate (node Tag.BackReference (ref N 1 end) (node Tag.TemplateArgs (mark 22 (node Tag.Several (node Tag.TemplateArgTypeArg (node Tag.BackReference (ref N 2 end) end) end) end)) end)) end) end) ∷ entry N (node Tag.SubstitutableTypeNode (node Tag.TypeNodeTemplateParam (node Tag.TemplateParam (number (pos 0) end) end) end) end) ∷ entry N (node Tag.SubstitutableTypeNode (node Tag.TypeNodePointerTo (node Tag.BackReference (ref N 3 end) end) end) end) ∷ entry N (node Tag.SubstitutableTypeNode (node Tag.TypeNodeDecltype (node Tag.DecltypeIdExpression (node Tag.ExpressionDerefMember (node Tag.ExpressionConversionOne (node Tag.BackReference (ref N 4 end) (node Tag.ExpressionPrimary (node Tag.ExprPrimaryLiteral (node Tag.TypeHandleBuiltin (node Tag.BuiltinTypeStandard (chosen 1 8 end) end) (place 42 43 end)) end) end)) (node Tag.MemberName (node Tag.NameUnscoped (node Tag.UnscopedNameUnqualified (node Tag.UnqualifiedNameSource (node Tag.SourceName (node Tag.Identifier (place 45 51 end) end) (node Tag.AbiTags (node Tag.Several end end) end)) end) end) end) end)) end) end) end) end) ∷ [])) 17
 unfolding measure_from run_rule rule entry_at
-r69 = by_measure refl
+mangled_name_1 = by_measure refl
 
-r70 : Reads Row.class_enum_type false (codes "Z3FoovEUlPT_PT0_E4_") (Read 19 (node Tag.ClassEnumTypeNamed (node Tag.NameLocal (node Tag.LocalNameRelative (node Tag.EncodingFunction (node Tag.NameUnscoped (node Tag.UnscopedNameUnqualified (node Tag.UnqualifiedNameSource (node Tag.SourceName (node Tag.Identifier (place 2 5 end) end) (node Tag.AbiTags (node Tag.Several end end) end)) end) end) (node Tag.BareFunctionType (node Tag.Several (node Tag.TypeHandleBuiltin (node Tag.BuiltinTypeStandard (chosen 1 0 end) end) end) end) end)) (node Tag.Present (node Tag.NameUnscoped (node Tag.UnscopedNameUnqualified (node Tag.UnqualifiedNameClosureType (node Tag.ClosureTypeName (node Tag.LambdaSig (node Tag.Several (node Tag.BackReference (ref N 1 end) (node Tag.BackReference (ref N 3 end) end)) end) (node Tag.Present (number (pos 4) end) end)) (node Tag.AbiTags (node Tag.Several end end) end)) end) end) end) (node Tag.Absent end end))) end) end) end) 4 0) 17
+template_args_4 : Reads Row.template_args false (codes "IjE1a") (Read 3 (node Tag.TemplateArgs (mark 0 (node Tag.Several (node Tag.TemplateArgTypeArg (node Tag.TypeHandleBuiltin (node Tag.BuiltinTypeStandard (chosen 1 9 end) end) end) end) end)) end) []) 10
 unfolding measure_from run_rule rule entry_at
-r70 = by_measure refl
+template_args_4 = by_measure refl
 
-r71 : Reads Row.class_enum_type false (codes "6helperIXszdcPT_T0_EE") (Read 21 (node Tag.ClassEnumTypeNamed (node Tag.NameUnscopedTemplate (node Tag.BackReference (ref N 0 end) (node Tag.TemplateArgs (mark 7 (node Tag.Several (node Tag.TemplateArgExpression (node Tag.ExpressionSizeofExpr (node Tag.ExpressionDynamicCast (node Tag.BackReference (ref N 2 end) (node Tag.ExpressionTemplateParam (node Tag.TemplateParam (number (pos 1) end) end) end)) end) end) end) end)) end)) end) end) 3 0) 15
+unresolved_name_3 : Reads Row.unresolved_name false (codes "onp_IiE") (Refused Text) 4
 unfolding measure_from run_rule rule entry_at
-r71 = by_measure refl
+unresolved_name_3 = by_measure refl
 
-r72 : Reads Row.class_enum_type false (codes "1") (Refused Text) 7
+nested_name_2 : Reads Row.nested_name false (codes "N1S1fB4MERPIiEEE") (Read 15 (node Tag.NestedNameTemplate (node Tag.CvQualifiers (flag false (flag false (flag false end))) (node Tag.Absent end (node Tag.NonSubstitution (ref U 0 end) end))) end) (entry N (node Tag.SubstitutablePrefix (node Tag.PrefixUnqualified (node Tag.UnqualifiedNameSource (node Tag.SourceName (node Tag.Identifier (place 2 3 end) end) (node Tag.AbiTags (node Tag.Several end end) end)) end) end) end) ∷ entry N (node Tag.SubstitutablePrefix (node Tag.PrefixNested (node Tag.BackReference (ref N 0 end) (node Tag.UnqualifiedNameSource (node Tag.SourceName (node Tag.Identifier (place 4 5 end) end) (node Tag.AbiTags (node Tag.Several (node Tag.AbiTag (node Tag.SourceName (node Tag.Identifier (place 7 11 end) end) end) end) end) end)) end)) end) end) ∷ entry U (node Tag.SubstitutablePrefix (node Tag.PrefixTemplate (node Tag.BackReference (ref N 1 end) (node Tag.TemplateArgs (mark 11 (node Tag.Several (node Tag.TemplateArgTypeArg (node Tag.TypeHandleBuiltin (node Tag.BuiltinTypeStandard (chosen 1 8 end) end) end) end) end)) end)) end) end) ∷ [])) 13
 unfolding measure_from run_rule rule entry_at
-r72 = by_measure refl
+nested_name_2 = by_measure refl
 
-r73 : ReadsUnder 18 0 Row.class_enum_type false (codes "1SIX1CIT_EE") TooDeep
-unfolding read_from run_rule rule entry_at
-r73 = refl
+clone_suffix_2 : Reads Row.clone_suffix false (codes "._omp") (Read 5 (node Tag.CloneSuffix (node Tag.CloneTypeIdentifier (place 1 5 end) (node Tag.Several end end)) end) []) 2
+unfolding measure_from run_rule rule entry_at
+clone_suffix_2 = by_measure refl
 
-r74 : ReadsUnder 19 0 Row.class_enum_type false (codes "1SIX1CIT_EE") (Refused Text)
-unfolding read_from run_rule rule entry_at
-r74 = refl
+unresolved_type_handle_1 : Reads Row.unresolved_type_handle false (codes "T_Ii") (Read 2 (node Tag.BackReference (ref N 0 end) end) (entry N (node Tag.SubstitutableUnresolvedType (node Tag.UnresolvedTypeTemplate (node Tag.TemplateParam (number (pos 0) end) (node Tag.Absent end end)) end) end) ∷ [])) 11
+unfolding measure_from run_rule rule entry_at
+unresolved_type_handle_1 = by_measure refl
 
-r75 : Reads Row.clone_suffix false (codes ".0") (Read 2 (node Tag.CloneSuffix (node Tag.CloneTypeIdentifier (place 1 2 end) (node Tag.Several end end)) end) 0 0) 2
+unqualified_name_2 : Reads Row.unqualified_name false (codes "1G1a") (Read 2 (node Tag.UnqualifiedNameSource (node Tag.SourceName (node Tag.Identifier (place 1 2 end) end) (node Tag.AbiTags (node Tag.Several end end) end)) end) []) 3
 unfolding measure_from run_rule rule entry_at
-r75 = by_measure refl
+unqualified_name_2 = by_measure refl
 
-r76 : Reads Row.clone_suffix false (codes ".1") (Read 2 (node Tag.CloneSuffix (node Tag.CloneTypeIdentifier (place 1 2 end) (node Tag.Several end end)) end) 0 0) 2
+expression_3 : Reads Row.expression false (codes "adL_ZN17UnspecInherStruct1iEE1a") (Read 29 (node Tag.ExpressionUnary (node Tag.OperatorNameSimple (chosen 0 6 end) (node Tag.ExpressionPrimary (node Tag.ExprPrimaryExternal (node Tag.MangledNameEncoding (node Tag.EncodingData (node Tag.NameNested (node Tag.NestedNameUnqualified (node Tag.CvQualifiers (flag false (flag false (flag false end))) (node Tag.Absent end (node Tag.Present (node Tag.BackReference (ref N 0 end) end) (node Tag.UnqualifiedNameSource (node Tag.SourceName (node Tag.Identifier (place 26 27 end) end) (node Tag.AbiTags (node Tag.Several end end) end)) end)))) end) end) (node Tag.Several end end)) end) end) end)) end) (entry N (node Tag.SubstitutablePrefix (node Tag.PrefixUnqualified (node Tag.UnqualifiedNameSource (node Tag.SourceName (node Tag.Identifier (place 8 25 end) end) (node Tag.AbiTags (node Tag.Several end end) end)) end) end) end) ∷ entry U (node Tag.SubstitutablePrefix (node Tag.PrefixNested (node Tag.BackReference (ref N 0 end) (node Tag.UnqualifiedNameSource (node Tag.SourceName (node Tag.Identifier (place 26 27 end) end) (node Tag.AbiTags (node Tag.Several end end) end)) end)) end) end) ∷ [])) 14
 unfolding measure_from run_rule rule entry_at
-r76 = by_measure refl
+expression_3 = by_measure refl
 
-r77 : Reads Row.clone_suffix false (codes "E") (Refused Text) 1
+bare_function_type_1 : Reads Row.bare_function_type false (codes "K_") (Refused End) 10
 unfolding measure_from run_rule rule entry_at
-r77 = by_measure refl
+bare_function_type_1 = by_measure refl
 
-r78 : ReadsUnder 2 0 Row.clone_suffix false (codes ".0") TooDeep
-unfolding read_from run_rule rule entry_at
-r78 = refl
+bare_function_type_2 : Reads Row.bare_function_type false (codes "vDoFvv") (Read 1 (node Tag.BareFunctionType (node Tag.Several (node Tag.TypeHandleBuiltin (node Tag.BuiltinTypeStandard (chosen 1 0 end) end) end) end) end) []) 12
+unfolding measure_from run_rule rule entry_at
+bare_function_type_2 = by_measure refl
 
-r79 : ReadsUnder 3 0 Row.clone_suffix false (codes ".0") (Read 2 (node Tag.CloneSuffix (node Tag.CloneTypeIdentifier (place 1 2 end) (node Tag.Several end end)) end) 0 0)
-unfolding read_from run_rule rule entry_at
-r79 = refl
+special_name_4 : Reads Row.special_name false (codes "TS1B") (Read 4 (node Tag.SpecialNameTypeinfoName (node Tag.BackReference (ref N 0 end) end) end) (entry N (node Tag.SubstitutableTypeNode (node Tag.TypeNodeClassEnum (node Tag.ClassEnumTypeNamed (node Tag.NameUnscoped (node Tag.UnscopedNameUnqualified (node Tag.UnqualifiedNameSource (node Tag.SourceName (node Tag.Identifier (place 3 4 end) end) (node Tag.AbiTags (node Tag.Several end end) end)) end) end) end) end) end) end) ∷ [])) 8
+unfolding measure_from run_rule rule entry_at
+special_name_4 = by_measure refl
 
-r80 : Reads Row.clone_type_identifier false (codes "0") (Read 1 (node Tag.CloneTypeIdentifier (place 0 1 end) end) 0 0) 1
+template_arg_2 : Reads Row.template_arg false (codes "VKFi_E") (Refused Text) 12
 unfolding measure_from run_rule rule entry_at
-r80 = by_measure refl
+template_arg_2 = by_measure refl
 
-r81 : Reads Row.clone_type_identifier false (codes "1") (Read 1 (node Tag.CloneTypeIdentifier (place 0 1 end) end) 0 0) 1
+encoding_2 : Reads Row.encoding false (codes "_fi") (Refused Text) 7
 unfolding measure_from run_rule rule entry_at
-r81 = by_measure refl
+encoding_2 = by_measure refl
 
-r82 : ReadsUnder 1 0 Row.clone_type_identifier false (codes "0") TooDeep
-unfolding read_from run_rule rule entry_at
-r82 = refl
+nested_name_3 : Reads Row.nested_name false (codes "N6PR58615AllocIcNS_6PolicyINS_1PELb1EEEE8allocateEE") (Read 50 (node Tag.NestedNameUnqualified (node Tag.CvQualifiers (flag false (flag false (flag false end))) (node Tag.Absent end (node Tag.Present (node Tag.BackReference (ref N 5 end) end) (node Tag.UnqualifiedNameSource (node Tag.SourceName (node Tag.Identifier (place 41 49 end) end) (node Tag.AbiTags (node Tag.Several end end) end)) end)))) end) (entry N (node Tag.SubstitutablePrefix (node Tag.PrefixUnqualified (node Tag.UnqualifiedNameSource (node Tag.SourceName (node Tag.Identifier (place 2 8 end) end) (node Tag.AbiTags (node Tag.Several end end) end)) end) end) end) ∷ entry N (node Tag.SubstitutablePrefix (node Tag.PrefixNested (node Tag.BackReference (ref N 0 end) (node Tag.UnqualifiedNameSource (node Tag.SourceName (node Tag.Identifier (place 9 14 end) end) (node Tag.AbiTags (node Tag.Several end end) end)) end)) end) end) ∷ entry N (node Tag.SubstitutablePrefix (node Tag.PrefixNested (node Tag.BackReference (ref N 0 end) (node Tag.UnqualifiedNameSource (node Tag.SourceName (node Tag.Identifier (place 20 26 end) end) (node Tag.AbiTags (node Tag.Several end end) end)) end)) end) end) ∷ entry U (node Tag.SubstitutablePrefix (node Tag.PrefixNested (node Tag.BackReference (ref N 0 end) (node Tag.UnqualifiedNameSource (node Tag.SourceName (node Tag.Identifier (place 31 32 end) end) (node Tag.AbiTags (node Tag.Several end end) end)) end)) end) end) ∷ entry N (node Tag.SubstitutableTypeNode (node Tag.TypeNodeClassEnum (node Tag.ClassEnumTypeNamed (node Tag.NameNested (node Tag.NestedNameUnqualified (node Tag.CvQualifiers (flag false (flag false (flag false end))) (node Tag.Absent end (node Tag.Present (node Tag.BackReference (ref N 0 end) end) (node Tag.UnqualifiedNameSource (node Tag.SourceName (node Tag.Identifier (place 31 32 end) end) (node Tag.AbiTags (node Tag.Several end end) end)) end)))) end) end) end) end) end) ∷ entry U (node Tag.SubstitutablePrefix (node Tag.PrefixTemplate (node Tag.BackReference (ref N 2 end) (node Tag.TemplateArgs (mark 26 (node Tag.Several (node Tag.TemplateArgTypeArg (node Tag.BackReference (ref N 3 end) end) (node Tag.TemplateArgSimpleExpression (node Tag.ExprPrimaryLiteral (node Tag.TypeHandleBuiltin (node Tag.BuiltinTypeStandard (chosen 1 2 end) end) (place 35 36 end)) end) end)) end)) end)) end) end) ∷ entry N (node Tag.SubstitutableTypeNode (node Tag.TypeNodeClassEnum (node Tag.ClassEnumTypeNamed (node Tag.NameNested (node Tag.NestedNameTemplate (node Tag.CvQualifiers (flag false (flag false (flag false end))) (node Tag.Absent end (node Tag.NonSubstitution (ref U 1 end) end))) end) end) end) end) end) ∷ entry N (node Tag.SubstitutablePrefix (node Tag.PrefixTemplate (node Tag.BackReference (ref N 1 end) (node Tag.TemplateArgs (mark 14 (node Tag.Several (node Tag.TemplateArgTypeArg (node Tag.TypeHandleBuiltin (node Tag.BuiltinTypeStandard (chosen 1 3 end) end) end) (node Tag.TemplateArgTypeArg (node Tag.BackReference (ref N 4 end) end) end)) end)) end)) end) end) ∷ entry U (node Tag.SubstitutablePrefix (node Tag.PrefixNested (node Tag.BackReference (ref N 5 end) (node Tag.UnqualifiedNameSource (node Tag.SourceName (node Tag.Identifier (place 41 49 end) end) (node Tag.AbiTags (node Tag.Several end end) end)) end)) end) end) ∷ [])) 22
+unfolding measure_from run_rule rule entry_at
+nested_name_3 = by_measure refl
 
-r83 : ReadsUnder 2 0 Row.clone_type_identifier false (codes "0") (Read 1 (node Tag.CloneTypeIdentifier (place 0 1 end) end) 0 0)
-unfolding read_from run_rule rule entry_at
-r83 = refl
+nested_name_4 : Reads Row.nested_name false (codes "N1S_mE") (Refused Text) 6
+unfolding measure_from run_rule rule entry_at
+nested_name_4 = by_measure refl
 
-r84 : Reads Row.closure_type_name false (codes "UlmE_") (Read 5 (node Tag.ClosureTypeName (node Tag.LambdaSig (node Tag.Several (node Tag.TypeHandleBuiltin (node Tag.BuiltinTypeStandard (chosen 1 11 end) end) end) end) (node Tag.Absent end end)) end) 0 0) 10
+array_type_2 : Reads Row.array_type false (codes "A10__P1X") (Refused Text) 9
 unfolding measure_from run_rule rule entry_at
-r84 = by_measure refl
+array_type_2 = by_measure refl
 
-r85 : Reads Row.closure_type_name false (codes "UliE0_") (Read 6 (node Tag.ClosureTypeName (node Tag.LambdaSig (node Tag.Several (node Tag.TypeHandleBuiltin (node Tag.BuiltinTypeStandard (chosen 1 8 end) end) end) end) (node Tag.Present (number (pos 0) end) end)) end) 0 0) 10
+bare_function_type_3 : Reads Row.bare_function_type false (codes "1xE") (Read 2 (node Tag.BareFunctionType (node Tag.Several (node Tag.BackReference (ref N 0 end) end) end) end) (entry N (node Tag.SubstitutableTypeNode (node Tag.TypeNodeClassEnum (node Tag.ClassEnumTypeNamed (node Tag.NameUnscoped (node Tag.UnscopedNameUnqualified (node Tag.UnqualifiedNameSource (node Tag.SourceName (node Tag.Identifier (place 1 2 end) end) (node Tag.AbiTags (node Tag.Several end end) end)) end) end) end) end) end) end) ∷ [])) 9
 unfolding measure_from run_rule rule entry_at
-r85 = by_measure refl
+bare_function_type_3 = by_measure refl
 
-r86 : Reads Row.closure_type_name false (codes "UlT_E_1a") (Read 6 (node Tag.ClosureTypeName (node Tag.LambdaSig (node Tag.Several (node Tag.BackReference (ref N 0 end) end) end) (node Tag.Absent end end)) end) 1 0) 10
+special_name_5 : Reads Row.special_name false (codes "TCSd__Si") (Refused Text) 9
 unfolding measure_from run_rule rule entry_at
-r86 = by_measure refl
+special_name_5 = by_measure refl
 
-r87 : Reads Row.closure_type_name false (codes "E") (Refused End) 1
+bare_function_type_4 : Reads Row.bare_function_type false (codes "PFsiElE") (Read 6 (node Tag.BareFunctionType (node Tag.Several (node Tag.BackReference (ref N 1 end) (node Tag.TypeHandleBuiltin (node Tag.BuiltinTypeStandard (chosen 1 10 end) end) end)) end) end) (entry N (node Tag.SubstitutableTypeNode (node Tag.TypeNodeFunction (node Tag.FunctionType (node Tag.CvQualifiers (flag false (flag false (flag false end))) (node Tag.Absent end (flag false (flag false (node Tag.BareFunctionType (node Tag.Several (node Tag.TypeHandleBuiltin (node Tag.BuiltinTypeStandard (chosen 1 6 end) end) (node Tag.TypeHandleBuiltin (node Tag.BuiltinTypeStandard (chosen 1 8 end) end) end)) end) (node Tag.Absent end end)))))) end) end) end) ∷ entry N (node Tag.SubstitutableTypeNode (node Tag.TypeNodePointerTo (node Tag.BackReference (ref N 0 end) end) end) end) ∷ [])) 13
 unfolding measure_from run_rule rule entry_at
-r87 = by_measure refl
+bare_function_type_4 = by_measure refl
 
-r88 : Reads Row.closure_type_name false (codes "_E") (Refused Text) 1
+local_name_4 : Reads Row.local_name false (codes "Z1GvENK1C1GE_") (Read 12 (node Tag.LocalNameRelative (node Tag.EncodingFunction (node Tag.NameUnscoped (node Tag.UnscopedNameUnqualified (node Tag.UnqualifiedNameSource (node Tag.SourceName (node Tag.Identifier (place 2 3 end) end) (node Tag.AbiTags (node Tag.Several end end) end)) end) end) (node Tag.BareFunctionType (node Tag.Several (node Tag.TypeHandleBuiltin (node Tag.BuiltinTypeStandard (chosen 1 0 end) end) end) end) end)) (node Tag.Present (node Tag.NameNested (node Tag.NestedNameUnqualified (node Tag.CvQualifiers (flag false (flag false (flag true end))) (node Tag.Absent end (node Tag.Present (node Tag.BackReference (ref N 0 end) end) (node Tag.UnqualifiedNameSource (node Tag.SourceName (node Tag.Identifier (place 10 11 end) end) (node Tag.AbiTags (node Tag.Several end end) end)) end)))) end) end) (node Tag.Absent end end))) end) (entry N (node Tag.SubstitutablePrefix (node Tag.PrefixUnqualified (node Tag.UnqualifiedNameSource (node Tag.SourceName (node Tag.Identifier (place 8 9 end) end) (node Tag.AbiTags (node Tag.Several end end) end)) end) end) end) ∷ entry U (node Tag.SubstitutablePrefix (node Tag.PrefixNested (node Tag.BackReference (ref N 0 end) (node Tag.UnqualifiedNameSource (node Tag.SourceName (node Tag.Identifier (place 10 11 end) end) (node Tag.AbiTags (node Tag.Several end end) end)) end)) end) end) ∷ [])) 11
 unfolding measure_from run_rule rule entry_at
-r88 = by_measure refl
+local_name_4 = by_measure refl
 
-r89 : ReadsUnder 19 0 Row.closure_type_name false (codes "UlN1aUlT") TooDeep
-unfolding read_from run_rule rule entry_at
-r89 = refl
+array_type_3 : Reads Row.array_type false (codes "A3_PFivE1a") (Read 8 (node Tag.ArrayTypeDimensionNumber (number (pos 3) (node Tag.BackReference (ref N 1 end) end)) end) (entry N (node Tag.SubstitutableTypeNode (node Tag.TypeNodeFunction (node Tag.FunctionType (node Tag.CvQualifiers (flag false (flag false (flag false end))) (node Tag.Absent end (flag false (flag false (node Tag.BareFunctionType (node Tag.Several (node Tag.TypeHandleBuiltin (node Tag.BuiltinTypeStandard (chosen 1 8 end) end) (node Tag.TypeHandleBuiltin (node Tag.BuiltinTypeStandard (chosen 1 0 end) end) end)) end) (node Tag.Absent end end)))))) end) end) end) ∷ entry N (node Tag.SubstitutableTypeNode (node Tag.TypeNodePointerTo (node Tag.BackReference (ref N 0 end) end) end) end) ∷ [])) 13
+unfolding measure_from run_rule rule entry_at
+array_type_3 = by_measure refl
 
-r90 : ReadsUnder 20 0 Row.closure_type_name false (codes "UlN1aUlT") (Refused Text)
-unfolding read_from run_rule rule entry_at
-r90 = refl
+decltype_3 : Reads Row.decltype false (codes "DTccT_fE") (Refused Text) 10
+unfolding measure_from run_rule rule entry_at
+decltype_3 = by_measure refl
 
-r91 : Reads Row.ctor_dtor_name false (codes "C1") (Read 2 (node Tag.CtorDtorNameCompleteConstructor (node Tag.Absent end end) end) 0 0) 1
+seq_id_2 : Reads Row.seq_id false (codes "M") (Read 1 (node Tag.SeqId (number (pos 22) end) end) []) 1
 unfolding measure_from run_rule rule entry_at
-r91 = by_measure refl
+seq_id_2 = by_measure refl
 
-r92 : Reads Row.ctor_dtor_name false (codes "C4") (Read 2 (node Tag.CtorDtorNameMaybeInChargeConstructor (node Tag.Absent end end) end) 0 0) 1
+function_type_5 : Reads Row.function_type false (codes "DoFivE") (Read 6 (node Tag.FunctionType (node Tag.CvQualifiers (flag false (flag false (flag false end))) (node Tag.Present (node Tag.ExceptionSpecNoExcept end end) (flag false (flag false (node Tag.BareFunctionType (node Tag.Several (node Tag.TypeHandleBuiltin (node Tag.BuiltinTypeStandard (chosen 1 8 end) end) (node Tag.TypeHandleBuiltin (node Tag.BuiltinTypeStandard (chosen 1 0 end) end) end)) end) (node Tag.Absent end end)))))) end) []) 10
 unfolding measure_from run_rule rule entry_at
-r92 = by_measure refl
+function_type_5 = by_measure refl
 
-r93 : Reads Row.ctor_dtor_name false (codes "D1") (Read 2 (node Tag.CtorDtorNameCompleteDestructor end end) 0 0) 1
+unscoped_name_3 : Reads Row.unscoped_name false (codes "1GE") (Read 2 (node Tag.UnscopedNameUnqualified (node Tag.UnqualifiedNameSource (node Tag.SourceName (node Tag.Identifier (place 1 2 end) end) (node Tag.AbiTags (node Tag.Several end end) end)) end) end) []) 4
 unfolding measure_from run_rule rule entry_at
-r93 = by_measure refl
+unscoped_name_3 = by_measure refl

@@ -53,6 +53,8 @@ word_takes t ws bs e = by (table_at ws bs) (word_fits ws bs)
 finds : (x : Eat) → takes_leaf (Leaf.eat x) ≡ true → (at : ℕ) (bs : List ℕ) → Takes bs (find x at bs)
 finds (Eat.run c) e at [] = tt
 finds (Eat.run c) e at (b ∷ bs) = run_takes at _ b bs
+finds Eat.identifier e at [] = tt
+finds Eat.identifier e at (b ∷ bs) = run_takes at _ b bs
 finds (Eat.upto b) e at bs = absurd (cc)
 finds (Eat.byte c) e at [] = tt
 finds (Eat.byte c) e at (b ∷ bs) = some_found b bs (is_in c b) 0 end Text

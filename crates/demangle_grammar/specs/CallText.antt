@@ -1,8 +1,8 @@
 -- The names of plain functions, and the text of such a name: `_Z3fooib` is `foo(int, bool)`.
-use Rattle.std.specs.Prelude.{ℕ, Bool, true, false, ◌&&◌, ◌||◌, ◌==◌, nat_le, List, [], ◌∷◌, ◌++◌, length, take, drop, Option, Some, None, Result, Ok, Err, if◌then◌else◌, codes}
-use Rattle.std.specs.List.{list_all}
+use Rattle.std.specs.Prelude.{ℕ, Bool, true, false, ◌&&◌, ◌||◌, ◌==◌, nat_le, nat_lt, List, [], ◌∷◌, ◌++◌, length, take}
+use Rattle.std.specs.Prelude.{drop, Option, Some, None, Result, Ok, Err, if◌then◌else◌, codes}
 use Rattle.demangle_text.specs.Kind.{Kind}
-use Rattle.demangle_text.specs.Bytes.{is_digit, is_capital, is_small}
+use Rattle.demangle_text.specs.Characters.{identifier_len}
 use Rattle.demangle_text.specs.Found.{Found, took, none}
 use Rattle.demangle_text.specs.Number.{natural_at}
 use Rattle.demangle_text.specs.Word.{starts}
@@ -10,16 +10,9 @@ use Rattle.demangle_vocab.specs.Table.{text_at, word_read}
 use Rattle.demangle_vocab.specs.Builtins.{builtins, builtin_words}
 
 -- ---- the source name: a number, and an identifier of just so many bytes (ABI section 5.1.2, <source-name>)
--- letters, digits, `$`, `_` and `.`
-abbrev pub is_identifier_byte : ℕ → Bool
-is_identifier_byte b = is_digit b || (is_capital b || (is_small b || ((b == 36) || ((b == 95) || (b == 46)))))
-
+-- one character of an identifier at least, and nothing else
 abbrev pub is_identifier : List ℕ → Bool
-is_identifier name = not_empty name && list_all is_identifier_byte name
-  where
-    not_empty : List ℕ → Bool
-    not_empty [] = false
-    not_empty (b ∷ bs) = true
+is_identifier name = nat_lt 0 (length name) && (identifier_len name == length name)
 
 -- an identifier of so many bytes, and the bytes behind it
 abbrev pub identifier_of : ℕ → List ℕ → Option (List ℕ × List ℕ)
@@ -47,7 +40,8 @@ joined None b = None
 -- the texts of further types, each behind `, `
 abbrev pub further_types : List ℕ → Option (List ℕ)
 further_types [] = Some []
-further_types (b ∷ bs) = joined (Some (codes ", ")) (joined (letter_text (word_read builtin_words (b ∷ bs))) (further_types bs))
+further_types (b ∷ bs) =
+    joined (Some (codes ", ")) (joined (letter_text (word_read builtin_words (b ∷ bs))) (further_types bs))
 
 -- the texts of one or more types
 abbrev pub type_texts : List ℕ → Option (List ℕ)

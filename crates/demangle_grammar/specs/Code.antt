@@ -1,5 +1,7 @@
--- The reading as the program does it: of cores, with the parts so far in a list, and with the kind `Deep` for what ends all reading.
-use Rattle.std.specs.Prelude.{ℕ, zero, suc, Bool, true, false, List, [], ◌∷◌, ◌++◌, length, take, nat_lt, nat_eq, ◌==◌, ◌||◌, if◌then◌else◌, pos, codes, Result, Ok, Err, Option, Some, None}
+-- The reading as the program does it: of cores, with the parts so far in a list, and with the kind `Deep` for what ends
+-- all reading.
+use Rattle.std.specs.Prelude.{ℕ, zero, suc, Bool, true, false, List, [], ◌∷◌, ◌++◌, length, take, nat_lt, nat_eq, ◌==◌}
+use Rattle.std.specs.Prelude.{◌||◌, if◌then◌else◌, pos, codes, Result, Ok, Err, Option, Some, None}
 use Rattle.demangle_core.specs.Core.{Core, end, number, flag, chosen, mark, ◌⊕◌, Which, N, U}
 use Rattle.demangle_text.specs.Kind.{Kind, End, Text, Bad, Unread, Deep, ends}
 use Rattle.demangle_text.specs.Spot.{Spot, skip}
@@ -11,7 +13,8 @@ use Rattle.demangle_grammar.specs.Rule.{Given, Class, Row, Eat, Leaf, Rule}
 use Rattle.demangle_grammar.specs.Tree.{How, shape, component_of, template_entry, taken_of, reference}
 use Rattle.demangle_grammar.specs.Rows.{rule}
 use Rattle.demangle_vocab.specs.Table.{table_from}
-use Rattle.demangle_grammar.specs.Reading.{find, holds, refusal, marks, given, next_is, is_empty, prefix_entry, is_nestable}
+use Rattle.demangle_grammar.specs.Reading.{find, holds, refusal, marks, given, next_is, is_empty, prefix_entry}
+use Rattle.demangle_grammar.specs.Reading.{is_nestable}
 
 -- ---- the parts so far
 abbrev pub joined_to : Core → List Core → Core
@@ -102,8 +105,10 @@ referred k s f = if nat_lt k (size N s.table) then f s (reference N k ∷ []) el
 abbrev pub eaten : Eat → Here → List Core → (Here → List Core → Out) → Out
 eaten (Eat.give g) s acc f = f s (acc ++ given g ∷ [])
 eaten Eat.here s acc f = f s (acc ++ mark s.spot.index end ∷ [])
-eaten (Eat.numeral base true) s acc f = read_leaf (number_from base true s.spot) (λ v p. f (at s p) (acc ++ number v end ∷ []))
-eaten (Eat.numeral base false) s acc f = read_leaf (natural_from base s.spot) (λ v p. f (at s p) (acc ++ number (pos v) end ∷ []))
+eaten (Eat.numeral base true) s acc f =
+    read_leaf (number_from base true s.spot) (λ v p. f (at s p) (acc ++ number v end ∷ []))
+eaten (Eat.numeral base false) s acc f =
+    read_leaf (natural_from base s.spot) (λ v p. f (at s p) (acc ++ number (pos v) end ∷ []))
 eaten (Eat.table t ws) s acc f = read_leaf (table_from ws s.spot) (λ k p. f (at s p) (acc ++ chosen t k end ∷ []))
 eaten x s acc f = read_leaf (eat_at x s.spot) (λ c p. f (at s p) (acc ++ c ∷ []))
 
@@ -115,8 +120,11 @@ cstep (Leaf.make m) s acc f = f s (shape (How.shaped m) (joined acc) ∷ [])
 cstep (Leaf.mark m) s acc f = marked (marks m s.spot.left) (joined acc) s f
 cstep Leaf.refer s acc f = referred (component_of (joined acc)) s f
 cstep Leaf.take_over s acc f = read_core (taken_over (joined acc) s.table) (λ c. f s (c ∷ []))
-cstep Leaf.no_prefix s acc f = No false (if next_is (Class.these (codes "E")) s.spot.left || is_empty s.spot.left then Unread End else Unread Text)
-cstep Leaf.mark_first s acc f = f (record { spot = s.spot; table = added U (template_entry (joined acc)) s.table }) (shape (How.made_first (size U s.table)) (joined acc) ∷ [])
+cstep Leaf.no_prefix s acc f =
+    No false (if next_is (Class.these (codes "E")) s.spot.left || is_empty s.spot.left then Unread End else Unread Text)
+cstep Leaf.mark_first s acc f =
+    f (record { spot = s.spot; table = added U (template_entry (joined acc)) s.table })
+    (shape (How.made_first (size U s.table)) (joined acc) ∷ [])
 
 -- ---- repetitions
 abbrev pub and_again : Out → (Here → List Core → Out) → Out → Out
@@ -162,7 +170,9 @@ turns_of go c r s acc = turns (go r c) (suc (length s.spot.left)) s acc
 
 -- ---- a rule over just n bytes
 abbrev pub whole : Spot → Out → (Here → Core → Out) → Out
-whole p (Yes m b) f = if is_empty m.spot.left then f (at m (record { index = m.spot.index; left = p.left })) (joined b) else No false (Unread Text)
+whole p (Yes m b) f =
+    if is_empty m.spot.left then f (at m (record { index = m.spot.index; left = p.left })) (joined b)
+    else No false (Unread Text)
 whole p (No h k) f = No (ends k) k
 
 abbrev pub inside : ℕ → Spot → Here → (Here → List Core → Out) → (Here → Core → Out) → Out
@@ -184,7 +194,9 @@ trial_at true true x f = tried x f
 -- ---- what is computed of the rule before it is read
 -- an optional word with its flag
 abbrev pub flag_of : Rule → Rule → Option (List ℕ)
-flag_of (Rule.leaf (Leaf.word w) (Rule.leaf (Leaf.eat (Eat.give Given.set)) Rule.done)) (Rule.leaf (Leaf.eat (Eat.give Given.unset)) Rule.done) = Some w
+flag_of
+    (Rule.leaf (Leaf.word w) (Rule.leaf (Leaf.eat (Eat.give Given.set)) Rule.done))
+    (Rule.leaf (Leaf.eat (Eat.give Given.unset)) Rule.done) = Some w
 flag_of _ _ = None
 
 abbrev pub taken_if : Bool → ℕ → Spot → Bool × Spot
@@ -210,11 +222,17 @@ crun go c (Rule.leaf l k) s acc = cstep l s acc (λ m b. crun go c k m b)
 crun go c (Rule.call on r k) s acc = from_row (go r (on || c) s []) (λ m t. crun go c k m (acc ++ t ∷ []))
 crun go c (Rule.loop r k) s acc = from_row (turns_of go c r s acc) (λ m t. crun go c k m (t ∷ []))
 crun go c (Rule.star x k) s acc = go_after k (starred go c x (λ m b. crun go c x m b) s acc) (λ m b. crun go c k m b)
-crun go c (Rule.alt x y k) s acc = go_after k (choice (flag_of x y) s acc (λ u. or_else (crun go c x s acc) (λ u. crun go c y s acc))) (λ m b. crun go c k m b)
+crun go c (Rule.alt x y k) s acc =
+    go_after k (choice (flag_of x y) s acc (λ u. or_else (crun go c x s acc) (λ u. crun go c y s acc)))
+    (λ m b. crun go c k m b)
 crun go c (Rule.commit k) s acc = committed (crun go c k s acc)
-crun go c (Rule.block x k) s acc = read_leaf (natural_from 10 s.spot) (λ v p. inside v p s (λ m b. crun go c x m b) (λ m b. crun go c k m (acc ++ b ∷ [])))
-crun go c (Rule.part h x k) s acc = and_then (crun go c x s []) (λ m b. crun go c k m (acc ++ shape (How.shaped h) (joined b) ∷ []))
-crun go c (Rule.trial r k) s acc = trial_at (next_is (Class.these (codes "I")) s.spot.left) c (go r c s []) (λ u. crun go c k s acc)
+crun go c (Rule.block x k) s acc =
+    read_leaf (natural_from 10 s.spot)
+    (λ v p. inside v p s (λ m b. crun go c x m b) (λ m b. crun go c k m (acc ++ b ∷ [])))
+crun go c (Rule.part h x k) s acc =
+    and_then (crun go c x s []) (λ m b. crun go c k m (acc ++ shape (How.shaped h) (joined b) ∷ []))
+crun go c (Rule.trial r k) s acc =
+    trial_at (next_is (Class.these (codes "I")) s.spot.left) c (go r c s []) (λ u. crun go c k s acc)
 
 -- with so many levels left, and the conversion flag
 unfoldable pub cread : ℕ → Row → Bool → Here → List Core → Reply

@@ -1,9 +1,11 @@
--- With which bytes a row can begin, and how deep it goes where the next byte is another. Both are computed from the rows.
+-- With which bytes a row can begin, and how deep it goes where the next byte is another. Both are computed from the
+-- rows.
 use Rattle.std.specs.Prelude.{◌≡◌, ℕ, zero, suc, max, Bool, true, false, ◌&&◌, ◌||◌, not, List, [], ◌∷◌, ◌==◌}
 use Rattle.demangle_grammar.specs.Rule.{Row, Rule, Leaf, Eat, Cond}
 use Rattle.demangle_grammar.specs.Rows.{rule}
 use Rattle.demangle_grammar.specs.Reading.{is_in}
 use Rattle.demangle_text.specs.Bytes.{is_digit}
+use Rattle.demangle_text.specs.Characters.{begins_char}
 use Rattle.demangle_text.specs.Number.{is_digit_in}
 
 -- ---- what can't be empty
@@ -15,6 +17,7 @@ no_empty ((b ∷ w) ∷ ws) = no_empty ws
 abbrev pub takes_leaf : Leaf → Bool
 takes_leaf (Leaf.word (b ∷ w)) = true
 takes_leaf (Leaf.eat (Eat.run c)) = true
+takes_leaf (Leaf.eat Eat.identifier) = true
 takes_leaf (Leaf.eat (Eat.byte c)) = true
 takes_leaf (Leaf.eat Eat.digit) = true
 takes_leaf (Leaf.eat (Eat.numeral base signs)) = true
@@ -54,6 +57,7 @@ heads ((c ∷ w) ∷ ws) b = (c == b) || heads ws b
 abbrev pub begins_leaf : Leaf → ℕ → Bool
 begins_leaf (Leaf.word (c ∷ w)) b = c == b
 begins_leaf (Leaf.eat (Eat.run c)) b = is_in c b
+begins_leaf (Leaf.eat Eat.identifier) b = begins_char b
 begins_leaf (Leaf.eat (Eat.byte c)) b = is_in c b
 begins_leaf (Leaf.eat Eat.digit) b = is_digit b
 begins_leaf (Leaf.eat (Eat.numeral base true)) b = (b == 110) || is_digit_in base b
@@ -82,7 +86,8 @@ module _ (takes : Row → Bool) (row : Row → ℕ → Bool) (b : ℕ) where
   begins_by (Rule.call on r k) = row r b || unless (takes r) (begins_by k)
   begins_by (Rule.loop r k) = row r b || begins_by k
   begins_by (Rule.star x k) = begins_by x || begins_by k
-  begins_by (Rule.alt x y k) = (begins_by x || begins_by y) || unless (takes_by takes x && takes_by takes y) (begins_by k)
+  begins_by (Rule.alt x y k) =
+      (begins_by x || begins_by y) || unless (takes_by takes x && takes_by takes y) (begins_by k)
   begins_by (Rule.commit k) = begins_by k
   begins_by (Rule.block x k) = is_digit_in 10 b
   begins_by (Rule.part m x k) = begins_by x || unless (takes_by takes x) (begins_by k)
@@ -107,7 +112,8 @@ module _ (takes : Row → Bool) (row : Row → ℕ) where
   idle_by (Rule.call on r k) = max (row r) (zero_if (takes r) (idle_by k))
   idle_by (Rule.loop r k) = max (row r) (idle_by k)
   idle_by (Rule.star x k) = max (idle_by x) (idle_by k)
-  idle_by (Rule.alt x y k) = max (max (idle_by x) (idle_by y)) (zero_if (takes_by takes x && takes_by takes y) (idle_by k))
+  idle_by (Rule.alt x y k) =
+      max (max (idle_by x) (idle_by y)) (zero_if (takes_by takes x && takes_by takes y) (idle_by k))
   idle_by (Rule.commit k) = idle_by k
   idle_by (Rule.block x k) = 0
   idle_by (Rule.part m x k) = max (idle_by x) (zero_if (takes_by takes x) (idle_by k))

@@ -1,4 +1,7 @@
--- The notation of the rows. An item is put before what is read after it: `a · b` is a and then b, `a // b` is a or else b.
+-- The notation of the rows. An item is put before what is read after it: `a · b` is a and then b, `a // b` is a or else
+-- b. Each item goes on from the parts that were read so far in its row: it leaves them (a word, a condition, `commit`),
+-- adds one (`eat`, `r`, `sized`, `opt`, `vec`), or puts one in the place of all (`made`, `plus`). In a turn of the
+-- prefix loop the parts so far are the prefix that the turns before have read.
 use Rattle.std.specs.Prelude.{ℕ, false, codes}
 use Prim.Native.String.{String}
 use Rattle.demangle_core.specs.Core.{Tag}
@@ -115,7 +118,8 @@ abbrev pub prefix_component : Tag → Item
 prefix_component x k = (made x · made Tag.SubstitutablePrefix · plus Mark.by_end) k
 
 abbrev pub template_component : Item
-template_component k = (made Tag.UnscopedTemplateName · made Tag.SubstitutableUnscopedTemplateName · plus Mark.numbered') k
+template_component k =
+    (made Tag.UnscopedTemplateName · made Tag.SubstitutableUnscopedTemplateName · plus Mark.numbered') k
 
 abbrev pub unresolved_component : Tag → Item
 unresolved_component x k = (made x · made Tag.SubstitutableUnresolvedType · plus Mark.numbered') k

@@ -1,10 +1,12 @@
 -- The ordered reading of rows.
-use Rattle.std.specs.Prelude.{ℕ, zero, suc, ◌+◌, ◌-◌, Bool, true, false, cond, not, ◌&&◌, ◌||◌, List, [], ◌∷◌, ◌++◌, length, take, drop, nat_lt, nat_le, ◌==◌, ℤ, pos, codes, max, Option, Some, None}
+use Rattle.std.specs.Prelude.{ℕ, zero, suc, ◌+◌, ◌-◌, Bool, true, false, cond, not, ◌&&◌, ◌||◌, List, [], ◌∷◌, ◌++◌}
+use Rattle.std.specs.Prelude.{length, take, drop, nat_lt, nat_le, ◌==◌, ℤ, pos, codes, max, Option, Some, None}
 use Rattle.demangle_core.specs.Core.{Core, end, node, place, number, flag, chosen, ref, mark, Tag, Which, N, U}
 use Rattle.demangle_core.specs.Table.{Entry, count, entry_at}
 use Rattle.demangle_text.specs.Kind.{Cause, End, Text, Bad}
 use Rattle.demangle_text.specs.Found.{Found, took, none, mapped}
 use Rattle.demangle_text.specs.Bytes.{is_digit, is_capital, is_small, span}
+use Rattle.demangle_text.specs.Characters.{identifier_len}
 use Rattle.demangle_text.specs.Word.{starts, missing_word}
 use Rattle.demangle_text.specs.Number.{number_at, natural_at}
 use Rattle.demangle_vocab.specs.Table.{table_at, more_at}
@@ -34,7 +36,6 @@ abbrev pub is_in : Class → ℕ → Bool
 is_in Class.any x = true
 is_in Class.digits x = is_digit x
 is_in Class.clone x = is_digit x || (is_capital x || (is_small x || is_one_of (codes "$_") x))
-is_in Class.identifier x = is_digit x || (is_capital x || (is_small x || is_one_of (codes "$_.") x))
 is_in Class.resource x = not (x == 36)
 is_in (Class.these bs) x = is_one_of bs x
 
@@ -46,6 +47,10 @@ run_found at (suc n) = took (suc n) (place at (at + suc n) end)
 abbrev pub run_at : Class → ℕ → List ℕ → Found Core
 run_at c at [] = none End
 run_at c at bs = run_found at (span (is_in c) bs)
+
+abbrev pub identifier_at : ℕ → List ℕ → Found Core
+identifier_at at [] = none End
+identifier_at at bs = run_found at (identifier_len bs)
 
 abbrev pub byte_at : Class → List ℕ → Found Core
 byte_at c [] = none End
@@ -74,6 +79,7 @@ numeral_at base signs bs = mapped numbered (number_at base signs bs)
 
 abbrev pub find : Eat → ℕ → List ℕ → Found Core
 find (Eat.run c) at bs = run_at c at bs
+find Eat.identifier at bs = identifier_at at bs
 find (Eat.upto b) at bs = let n = span (λ x. not (x == b)) bs in took n (place at (at + n) end)
 find (Eat.byte c) at bs = byte_at c bs
 find Eat.digit at bs = digit_at bs
@@ -211,15 +217,26 @@ module _ {X M : Type 0} (p : Parts X) (ret : Answer X → M) (bind : M → (Answ
   found (none cause) go = ret (No false cause)
 
   abbrev pub step : Leaf → State → X → (State → X → M) → M
-  step (Leaf.word w) s a go = where_so (starts w s.rest) (missing_word w s.rest) (λ u. go (ahead_by (length w) s) (p.cat a (p.leaf w end)))
-  step (Leaf.eat x) s a go = found (find x s.at s.rest) (λ n fields. go (ahead_by n s) (p.cat a (p.leaf (take n s.rest) fields)))
+  step (Leaf.word w) s a go =
+      where_so (starts w s.rest) (missing_word w s.rest) (λ u. go (ahead_by (length w) s) (p.cat a (p.leaf w end)))
+  step (Leaf.eat x) s a go =
+      found (find x s.at s.rest) (λ n fields. go (ahead_by n s) (p.cat a (p.leaf (take n s.rest) fields)))
   step (Leaf.check c) s a go = where_so (holds c s.rest (p.core_of a)) (refusal c) (λ u. go s a)
   step (Leaf.make m) s a go = go s (p.over (How.shaped m) a)
-  step (Leaf.mark m) s a go = let w = marks m s.rest in go (kept s (record { which = w; tree = p.core_of a })) (p.over (How.made w (count w s.entries)) a)
-  step Leaf.refer s a go = let k = component_of (p.core_of a) in where_so (nat_lt k (count N s.entries)) Bad (λ u. go s (p.over (How.refers k) a))
-  step Leaf.take_over s a go = let x = prefix_entry (p.core_of a) s.entries in where_so (is_nestable x) Text (λ u. go s (p.over (How.taken x) a))
-  step Leaf.no_prefix s a go = ret (No false (cond (next_is (Class.these (codes "E")) s.rest || is_empty s.rest) End Text))
-  step Leaf.mark_first s a go = go (kept s (record { which = U; tree = template_entry (p.core_of a) })) (p.over (How.made_first (count U s.entries)) a)
+  step (Leaf.mark m) s a go =
+      let w = marks m s.rest in
+      go (kept s (record { which = w; tree = p.core_of a })) (p.over (How.made w (count w s.entries)) a)
+  step Leaf.refer s a go =
+      let k = component_of (p.core_of a) in
+      where_so (nat_lt k (count N s.entries)) Bad (λ u. go s (p.over (How.refers k) a))
+  step Leaf.take_over s a go =
+      let x = prefix_entry (p.core_of a) s.entries in
+      where_so (is_nestable x) Text (λ u. go s (p.over (How.taken x) a))
+  step Leaf.no_prefix s a go =
+      ret (No false (cond (next_is (Class.these (codes "E")) s.rest || is_empty s.rest) End Text))
+  step Leaf.mark_first s a go =
+      go (kept s (record { which = U; tree = template_entry (p.core_of a) }))
+      (p.over (How.made_first (count U s.entries)) a)
 
   -- goes on from a Yes
   abbrev pub next_do : (State → X → M) → Answer X → M
@@ -263,7 +280,9 @@ module _ {X M : Type 0} (p : Parts X) (ret : Answer X → M) (bind : M → (Answ
   abbrev pub sized : Bool → ℕ → State → (State → X → M) → (State → X → M) → M
   sized true v s go on = ret (No false End)
   sized false zero s go on = ret (No false Text)
-  sized false v s go on = bind (go (record { at = s.at; rest = take v s.rest; entries = s.entries }) (p.leaf [] end)) (whole (drop v s.rest) on)
+  sized false v s go on =
+      bind (go (record { at = s.at; rest = take v s.rest; entries = s.entries }) (p.leaf [] end))
+      (whole (drop v s.rest) on)
 
   -- the trial: what it read is given back
   abbrev pub tried : (Unit {0} → M) → Answer X → M
@@ -281,18 +300,24 @@ module _ {X M : Type 0} (p : Parts X) (ret : Answer X → M) (bind : M → (Answ
   unfoldable pub run_rule : (Row → Bool → State → X → M) → Bool → Rule → State → X → M
   run_rule read c Rule.done s a = ret (Yes s a)
   run_rule read c (Rule.leaf l k) s a = step l s a (run_rule read c k)
-  run_rule read c (Rule.call on r k) s a = bind (read r (on || c) s (p.leaf [] end)) (next_do (λ m b. run_rule read c k m (p.cat a b)))
+  run_rule read c (Rule.call on r k) s a =
+      bind (read r (on || c) s (p.leaf [] end)) (next_do (λ m b. run_rule read c k m (p.cat a b)))
   run_rule read c (Rule.loop r k) s a = bind (turns (read r c) (suc (length s.rest)) s a) (next_do (run_rule read c k))
-  run_rule read c (Rule.star x k) s a = bind (many (run_rule read c x) (suc (length s.rest)) s a) (next_do (run_rule read c k))
-  run_rule read c (Rule.alt x y k) s a = bind (bind (run_rule read c x s a) (or_else (λ cause. run_rule read c y s a))) (next_do (run_rule read c k))
+  run_rule read c (Rule.star x k) s a =
+      bind (many (run_rule read c x) (suc (length s.rest)) s a) (next_do (run_rule read c k))
+  run_rule read c (Rule.alt x y k) s a =
+      bind (bind (run_rule read c x s a) (or_else (λ cause. run_rule read c y s a))) (next_do (run_rule read c k))
   run_rule read c (Rule.commit k) s a = bind (run_rule read c k s a) (λ x. ret (hard x))
   run_rule read c (Rule.block x k) s a =
       found (natural_at 10 s.rest) (λ n v.
       sized (nat_lt (length (drop n s.rest)) v) v (ahead_by n s) (run_rule read c x)
       (λ m b. run_rule read c k m (p.cat (p.cat a (p.leaf (take n s.rest) end)) b)))
-  run_rule read c (Rule.part h x k) s a = bind (run_rule read c x s (p.leaf [] end)) (next_do (λ m b. run_rule read c k m (p.cat a (p.over (How.shaped h) b))))
+  run_rule read c (Rule.part h x k) s a =
+      bind (run_rule read c x s (p.leaf [] end))
+      (next_do (λ m b. run_rule read c k m (p.cat a (p.over (How.shaped h) b))))
   run_rule read c (Rule.trial r k) s a =
-      trial_of (next_is (Class.these (codes "I")) s.rest) c (λ u. read r c s (p.leaf [] end)) (λ u. run_rule read c k s a)
+      trial_of (next_is (Class.these (codes "I")) s.rest) c (λ u. read r c s (p.leaf [] end))
+      (λ u. run_rule read c k s a)
 
 -- ---- the answer alone
 abbrev pub answer : {X : Type 0} → Answer X → Answer X

@@ -1,23 +1,34 @@
 -- What a row of the grammar is made of. A rule holds what is read after it, so no lists of items are needed.
+--
+-- A reading of a row keeps the parts so far: what was read of it, one part behind the other. At the row's begin there
+-- are none. What is eaten and a row that is called are a part more; `make` and `mark` put one part in the place of all
+-- so far; a group of alternatives and a repetition go on from the parts before them, and a part of its own, `part`,
+-- begins with none and is then one more. Only `loop` hands the parts on to the row that it calls: from turn to turn
+-- they are the prefix so far, and what a turn makes of them stands in their place. At the row's end the parts are the
+-- row's node.
 use Rattle.std.specs.Prelude.{ℕ, Bool, List}
 use Rattle.demangle_core.specs.Core.{Tag}
 
--- The rows. Three of them the grammar's text doesn't name: qualifiers of which there is one at least, the first turn of a
--- prefix, and a later turn, which goes on from the prefix so far.
+-- The rows. Three of them the grammar's text doesn't name: qualifiers of which there is one at least, the first turn of
+-- a prefix, and a later turn, which goes on from the prefix so far.
 pub data Row : Type 0 where
   simple_operator_name standard_builtin_type well_known_component ref_qualifier explicit_object_parameter : Row
-  number seq_id source_name identifier clone_type_identifier abi_tag abi_tags clone_suffix nv_offset v_offset call_offset discriminator : Row
+  number seq_id source_name identifier clone_type_identifier abi_tag abi_tags : Row
+  clone_suffix nv_offset v_offset call_offset discriminator : Row
   template_param function_param cv_qualifiers some_cv_qualifiers unnamed_type_name resource_name substitution : Row
-  mangled_name encoding global_ctor_dtor name unscoped_name unscoped_template_name_handle nested_name prefix_handle first_turn prefix_turn : Row
+  mangled_name encoding global_ctor_dtor name unscoped_name unscoped_template_name_handle : Row
+  nested_name prefix_handle first_turn prefix_turn : Row
   unqualified_name operator_name ctor_dtor_name local_name closure_type_name lambda_sig data_member_prefix : Row
-  type_handle builtin_type parametric_builtin_type exception_spec function_type bare_function_type decltype class_enum_type : Row
+  type_handle builtin_type parametric_builtin_type exception_spec function_type : Row
+  bare_function_type decltype class_enum_type : Row
   array_type vector_type pointer_to_member_type template_template_param_handle template_args template_arg : Row
-  expression unresolved_name unresolved_qualifier_level unresolved_type_handle simple_id destructor_name base_unresolved_name : Row
+  expression unresolved_name unresolved_qualifier_level unresolved_type_handle : Row
+  simple_id destructor_name base_unresolved_name : Row
   expr_primary initializer subobject_expr member_name fold_expr special_name : Row
 
 -- classes of bytes
 pub data Class : Type 0 where
-  any digits identifier clone resource : Class
+  any digits clone resource : Class
   these : List ℕ → Class
 
 -- fixed fields: true, false, no optional part, the number 0, an empty list
@@ -27,6 +38,7 @@ pub data Given : Type 0 where
 -- what is read with no other row
 pub data Eat : Type 0 where
   run : Class → Eat  -- the longest run of the class, not an empty one: a place
+  identifier : Eat  -- the longest run of characters of an identifier, in UTF-8, not an empty one: a place
   upto : ℕ → Eat  -- the bytes before the next such byte, or all: a place
   byte : Class → Eat  -- one byte of the class, which no field keeps
   digit : Eat  -- one digit: its number

@@ -2,6 +2,7 @@
 use Rattle.std.specs.Prelude.{◌⊎◌, ◌≡◌, ℕ, ◌≤◌, ◌-◌, ◌==◌, List, [], ◌∷◌, ◌++◌, length, take, drop, not, codes, Bool, true, false}
 use Rattle.demangle_core.specs.Core.{Core, Tag, end, node, place, number, flag, chosen, ref, mark}
 use Rattle.demangle_core.specs.Table.{Entry, Table}
+use Rattle.demangle_text.specs.Characters.{AreIdentifierChars}
 use Rattle.demangle_grammar.specs.Rule.{Class}
 use Rattle.demangle_grammar.specs.Reading.{is_in}
 use Rattle.demangle_core.specs.Sound.{RefersTo, ReferBack}
@@ -18,7 +19,7 @@ IsResource bs = (front : List ℕ) × (tail : List ℕ) × (bs ≡ front ++ tail
 
 -- the bytes of a place are those that the row of its node reads
 abbrev pub AreOf : Tag → List ℕ → Type 0
-AreOf Tag.Identifier bs = IsSome bs × AllOf (is_in Class.identifier) bs
+AreOf Tag.Identifier bs = IsSome bs × AreIdentifierChars bs
 AreOf Tag.CloneTypeIdentifier bs = IsSome bs × AllOf (is_in Class.clone) bs
 AreOf Tag.ResourceName bs = IsResource bs
 AreOf Tag.ExprPrimaryLiteral bs = AllOf (λ b. not (b == 69)) bs

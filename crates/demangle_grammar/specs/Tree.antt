@@ -64,7 +64,9 @@ rest_of c = end
 
 -- an unqualified name as the entry of a template name, and as the template that refers to it
 abbrev pub template_entry : Core → Core
-template_entry c = node Tag.SubstitutableUnscopedTemplateName (node Tag.UnscopedTemplateName (node Tag.UnscopedNameUnqualified (first_of c) end) end) end
+template_entry c =
+    node Tag.SubstitutableUnscopedTemplateName
+    (node Tag.UnscopedTemplateName (node Tag.UnscopedNameUnqualified (first_of c) end) end) end
 
 abbrev pub template_name : ℕ → Core → Core
 template_name k c = node Tag.NameUnscopedTemplate (node Tag.NonSubstitution (ref U k end) (rest_of c)) end
@@ -78,7 +80,8 @@ front c = end
 
 -- its parts are the qualifiers and the prefix, or the word of an explicit object and the prefix
 abbrev pub nested_unqualified : (prefix name parts : Core) → Core
-nested_unqualified p name (chosen t k n) = node Tag.NestedNameUnqualifiedExplicitObject (p ⊕ (name ⊕ chosen t k end)) end
+nested_unqualified p name (chosen t k n) =
+    node Tag.NestedNameUnqualifiedExplicitObject (p ⊕ (name ⊕ chosen t k end)) end
 nested_unqualified p name c = node Tag.NestedNameUnqualified (front c ⊕ (p ⊕ name)) end
 
 abbrev pub nested_template : Core → Core
@@ -86,8 +89,10 @@ nested_template (chosen t k n) = node Tag.NestedNameTemplateExplicitObject (n �
 nested_template c = node Tag.NestedNameTemplate c end
 
 abbrev pub taken_of : (entry parts : Core) → Core
-taken_of (node Tag.SubstitutablePrefix (node Tag.PrefixUnqualified name n) m) c = nested_unqualified (node Tag.Absent end end) name c
-taken_of (node Tag.SubstitutablePrefix (node Tag.PrefixNested (node t p name) n) m) c = nested_unqualified (node Tag.Present (node t p end) end) name c
+taken_of (node Tag.SubstitutablePrefix (node Tag.PrefixUnqualified name n) m) c =
+    nested_unqualified (node Tag.Absent end end) name c
+taken_of (node Tag.SubstitutablePrefix (node Tag.PrefixNested (node t p name) n) m) c =
+    nested_unqualified (node Tag.Present (node t p end) end) name c
 taken_of _ c = nested_template c
 
 -- a reference to a component

@@ -1,2 +1,5 @@
+pub mod Runs
+pub mod Identifiers
 pub mod Starts
+pub mod Utf8
 pub mod Digits

@@ -1,5 +1,5 @@
 -- A place in the input: its index there, and the bytes from there on.
-use Rattle.std.specs.Prelude.{◌≡◌, ℕ, ◌+◌, List, [], ◌∷◌, take, drop, Option, Some, None}
+use Rattle.std.specs.Prelude.{◌≡◌, ℕ, ◌+◌, Bool, ◌&&◌, ◌==◌, IsTrue, ◌↔◌, List, [], ◌∷◌, take, drop, bytes_eq, Option, Some, None}
 use Rattle.demangle_text.specs.declared.index_str.IndexStr.{IndexStr}
 
 pub record Spot : Type 0 where
@@ -9,6 +9,10 @@ pub record Spot : Type 0 where
 -- what contracts see of an `IndexStr`
 abbrev pub spot : IndexStr → Spot
 spot s = record { index = s.index; left = s.string.now }
+
+-- what `==` answers: the index and the bytes are the same
+abbrev pub same_spot : Spot → Spot → Bool
+same_spot p q = (p.index == q.index) && bytes_eq p.left q.left
 
 -- n bytes on
 abbrev pub skip : ℕ → Spot → Spot
@@ -32,3 +36,7 @@ first_byte (b ∷ bs) = Some b
 abbrev pub second_byte : List ℕ → Option ℕ
 second_byte [] = None
 second_byte (b ∷ bs) = first_byte bs
+
+-- `==` holds just where the index and the bytes are equal.
+abbrev pub EqualSpots : Type 0
+EqualSpots = (p q : Spot) → IsTrue (same_spot p q) ↔ ((p.index ≡ q.index) × (p.left ≡ q.left))

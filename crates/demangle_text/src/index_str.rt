@@ -5,7 +5,7 @@ ghost use Rattle.std.specs.Prelude.{◌≡◌, ◌+◌, ◌^◌, ◌<◌, ◌≤
 use std::ops::{Range, RangeFrom, RangeTo};
 
 /// A slice of the input and its index there. It is two words and an index, and is passed by value.
-#[derive(Clone, Copy, Debug, PartialEq, Eq)]
+#[derive(Clone, Copy, Debug, Eq)]
 pub struct IndexStr<'a> {
     string: &'a [u8],
     index: usize,
@@ -168,6 +168,21 @@ impl<'a> IndexStr<'a> {
         ensures { IsTrue result ↔ ((spot self.now).left ≡ bytes.now) }
     {
         self.string == bytes
+    }
+}
+
+/// Equal exactly where the index and the bytes are equal.
+impl PartialEq for IndexStr<'_> {
+    ghost use Rattle.std.proofs.Common.{rules};
+    ghost use Rattle.std.specs.Cmp.Rules.{comparing};
+    ghost use Rattle.demangle_text.specs.Spot.{spot, same_spot};
+
+    ghost eq = { λ a b. same_spot (spot a) (spot b) };
+
+    ghost laws = { Prim.search (comparing, rules) };
+
+    fn eq(&self, other: &IndexStr<'_>) -> bool {
+        self.index == other.index && self.string == other.string
     }
 }
 
