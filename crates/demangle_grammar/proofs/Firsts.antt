@@ -1,7 +1,7 @@
 -- The first bytes of each row, and how deep it goes where the next byte is another. Written by tools/write_readings.py.
 use Rattle.std.specs.Prelude.{true, false, [], ◌∷◌}
 use Rattle.std.proofs.Common.{refl}
-use Rattle.demangle_core.specs.Core.{Tag, number}
+use Rattle.demangle_core.specs.Core.{Tag}
 use Rattle.demangle_grammar.specs.Rule.{Row}
 use Rattle.demangle_grammar.specs.Rows.{rule, global, operators}
 use Rattle.demangle_grammar.specs.First.{takes_in, first_in, idle_in}

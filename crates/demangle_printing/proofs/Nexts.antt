@@ -2,7 +2,8 @@
 use Rattle.std.specs.Prelude.{◌≡◌, ℕ, zero, suc, true, List, [], ◌∷◌, Option, Some, None}
 use Rattle.std.proofs.Common.{refl, sym, true≢false}
 use Rattle.demangle_core.specs.Core.{Tag, Core, Which}
-use Rattle.demangle_core.specs.Lookups.{Next, answer, nothing, at, through, else_next, first_step, leaf_word, leaf_node, args_node, Sort, as_prefix, as_type, args_component, special_node}
+use Rattle.demangle_core.specs.Lookups.{Next, answer, nothing, at, through, else_next, first_step, leaf_word}
+use Rattle.demangle_core.specs.Lookups.{leaf_node, args_node, Sort, as_prefix, as_type, args_component, special_node}
 use Rattle.demangle_grammar.specs.Sound.{is_substitutable}
 use Rattle.demangle_grammar.specs.Expand.{Expanded}
 use Rattle.demangle_printing.specs.Trees.{may_refer}
@@ -73,7 +74,8 @@ module _ (R : Core → Expanded → Type 0) (At : Which → ℕ → Option Expan
   leaf_node_alike Tag.SubstitutableUnscopedTemplateName x y (a ∷ ps) p q = q.0
   leaf_node_alike Tag.SubstitutableTypeNode x y (a ∷ ps) p q = q.0
   leaf_node_alike Tag.SubstitutablePrefix x y (a ∷ ps) p q = q.0
-  leaf_node_alike Tag.NestedNameUnqualified x y (a ∷ b ∷ c ∷ d ∷ ps) p q = else_alike d.0 d.1 c.0 c.1 q.1.1.1.0 q.1.1.0
+  leaf_node_alike Tag.NestedNameUnqualified x y (a ∷ b ∷ c ∷ d ∷ ps) p q =
+      else_alike d.0 d.1 c.0 c.1 q.1.1.1.0 q.1.1.0
   leaf_node_alike Tag.NestedNameTemplate x y (a ∷ b ∷ c ∷ ps) p q = q.1.1.0
   leaf_node_alike Tag.NestedNameUnqualifiedExplicitObject x y (a ∷ b ∷ ps) p q = else_alike b.0 b.1 a.0 a.1 q.1.0 q.0
   leaf_node_alike Tag.LocalNameRelative x y (a ∷ b ∷ ps) p q = q.1.0
@@ -135,13 +137,15 @@ module _ (R : Core → Expanded → Type 0) (At : Which → ℕ → Option Expan
   component_node_alike as_type Tag.SubstitutableTypeNode a b p = p
   component_node_alike _ _ a b p = tt
 
-  pub args_component_alike : (s : Sort) (t : Tag) → is_substitutable t ≡ true → (x : Core) (y : Expanded) (ps : List Pair) → AllNext ps
+  pub args_component_alike : (s : Sort) (t : Tag) → is_substitutable t ≡ true →
+      (x : Core) (y : Expanded) (ps : List Pair) → AllNext ps
       → NextR (args_component s t (first_step (firsts ps))) (args_component s t (first_step (seconds ps)))
   args_component_alike s t e x y ps q =
       component_node_alike s t (first_step (firsts ps)) (first_step (seconds ps)) (first_alike ps q)
 
   -- what a component has for a reference to it
-  pub leaf_component_alike : (t : Tag) → is_substitutable t ≡ true → (x : Core) (y : Expanded) (ps : List Pair) → AllNext ps
+  pub leaf_component_alike : (t : Tag) → is_substitutable t ≡ true → (x : Core) (y : Expanded) (ps : List Pair) →
+      AllNext ps
       → NextR (leaf_node t x (firsts ps)) (leaf_node t y (seconds ps))
   leaf_component_alike Tag.SubstitutableUnscopedTemplateName e x y [] q = tt
   leaf_component_alike Tag.SubstitutableTypeNode e x y [] q = tt
@@ -154,7 +158,8 @@ module _ (R : Core → Expanded → Type 0) (At : Which → ℕ → Option Expan
   leaf_component_alike Tag.SubstitutableExpression e x y ps q = tt
   leaf_component_alike _ e x y ps q = absurd (true≢false (sym e))
 
-  pub special_component_alike : (t : Tag) → is_substitutable t ≡ true → (x : Core) (y : Expanded) (ps : List Pair) → AllNext ps
+  pub special_component_alike : (t : Tag) → is_substitutable t ≡ true → (x : Core) (y : Expanded) (ps : List Pair) →
+      AllNext ps
       → NextR (special_node t x (firsts ps)) (special_node t y (seconds ps))
   special_component_alike Tag.SubstitutablePrefix e x y [] q = tt
   special_component_alike Tag.SubstitutablePrefix e x y (a ∷ ps) q = q.0
@@ -166,17 +171,20 @@ module _ (R : Core → Expanded → Type 0) (At : Which → ℕ → Option Expan
   special_component_alike _ e x y ps q = absurd (true≢false (sym e))
 
 -- ---- a handle that refers has what its reference has
-pub leaf_of_handle : (t : Tag) → may_refer t ≡ true → (x : Core) (a : Next Core) (ss : List (Next Core)) → leaf_node t x (a ∷ ss) ≡ a
+pub leaf_of_handle : (t : Tag) → may_refer t ≡ true → (x : Core) (a : Next Core) (ss : List (Next Core)) →
+    leaf_node t x (a ∷ ss) ≡ a
 leaf_of_handle Tag.BackReference e x a ss = refl
 leaf_of_handle Tag.NonSubstitution e x a ss = refl
 leaf_of_handle _ e x a ss = absurd (true≢false (sym e))
 
-pub args_of_handle : (t : Tag) → may_refer t ≡ true → (x : Core) (a : Next Core) (ss : List (Next Core)) → args_node t x (a ∷ ss) ≡ a
+pub args_of_handle : (t : Tag) → may_refer t ≡ true → (x : Core) (a : Next Core) (ss : List (Next Core)) →
+    args_node t x (a ∷ ss) ≡ a
 args_of_handle Tag.BackReference e x a ss = refl
 args_of_handle Tag.NonSubstitution e x a ss = refl
 args_of_handle _ e x a ss = absurd (true≢false (sym e))
 
-pub special_of_handle : (t : Tag) → may_refer t ≡ true → (x : Core) (a : Next Core) (ss : List (Next Core)) → special_node t x (a ∷ ss) ≡ a
+pub special_of_handle : (t : Tag) → may_refer t ≡ true → (x : Core) (a : Next Core) (ss : List (Next Core)) →
+    special_node t x (a ∷ ss) ≡ a
 special_of_handle Tag.BackReference e x a ss = refl
 special_of_handle Tag.NonSubstitution e x a ss = refl
 special_of_handle _ e x a ss = absurd (true≢false (sym e))
