@@ -1,19 +1,18 @@
 -- Laws on the parts of a plain function's name, in the words of the code that reads them.
-use Rattle.std.proofs.Common.{cond, IsTrue, ◌↔◌, zero, suc, append_assoc, append-nil, codes, ◌≡◌, ℕ, ◌+◌, ◌-◌, ◌<◌, ◌≤◌, Bool, true, false, eqb, ◌&&◌, List, [], ◌∷◌, ◌++◌, length, drop, refl, sym, ap, ◌∙◌, arith, rules, tests, Ok, Err, Result, Some, None}
+use Rattle.std.proofs.Common.{cond, IsTrue, ◌↔◌, zero, suc, append_assoc, append-nil, codes, ◌≡◌, ℕ, ◌+◌, ◌-◌, ◌<◌, ◌≤◌, Bool, true, false, eqb, nat_lt, ◌&&◌, List, [], ◌∷◌, ◌++◌, length, drop, refl, sym, ap, ◌∙◌, arith, rules, tests, Ok, Err, Result, Some, None}
 use Rattle.std.specs.Prelude.{Option}
 use Rattle.demangle_text.specs.Kind.{Kind}
 use Rattle.demangle_text.specs.Spot.{Spot, skip}
 use Rattle.demangle_text.specs.Found.{Found, took, none, and_rest, placed}
 use Rattle.demangle_text.specs.Word.{starts, word_at}
 use Rattle.demangle_text.specs.Number.{natural_at, natural_from}
-use Rattle.demangle_vocab.specs.Table.{text_at, word_read, table_from}
+use Rattle.demangle_vocab.specs.WordTable.{text_at, word_read, table_from}
 use Rattle.demangle_vocab.specs.Builtins.{builtins, builtin_words}
-use Rattle.demangle_grammar.specs.CallText.{call_text, call_of, is_identifier_byte, joined, further_types, type_texts, call_with, source_name, behind_number, identifier_of, is_identifier, letter_text}
+use Rattle.demangle_grammar.specs.CallText.{call_text, call_of, joined, further_types, type_texts, call_with, source_name, behind_number, identifier_of, is_identifier, letter_text}
 use Rattle.cpp_demangle.specs.Letter.{IsLetter}
-use Rattle.std.specs.List.{list_all}
-use Rattle.std.specs.Str.{IsAscii, IsUtf8}
-use Rattle.std.proofs.lemmas.Str.{IsUtf8-from_ascii}
-use Rattle.std.proofs.lemmas.Bool.{false≢true}
+use Rattle.demangle_text.specs.Characters.{identifier_len, AreIdentifierChars}
+use Rattle.demangle_text.proofs.Identifiers.{run_is_whole}
+use Rattle.std.proofs.lemmas.Bool.{false≢true, and_parts, eqb-true}
 
 -- the value of an Ok
 ok_of : {X E : Type 0} → X → Result X E → X
@@ -103,26 +102,11 @@ is-letter p q k text e one t =
     let step : q.index - p.index ≡ 1 = omega arith in
     is-letter' p.left q.left text (letter-ok p q k e one ∙ ap (λ z. Some z) (sym t)) (on.1 ∙ ap (λ m. drop m p.left) step)
 
--- ---- an identifier is text
-and-left : (a b : Bool) → (a && b) ≡ true → a ≡ true
-and-left true b e = refl
-and-left false b e = absurd (false≢true e)
-
-and-right : (a b : Bool) → (a && b) ≡ true → b ≡ true
-and-right true b e = e
-and-right false b e = absurd (false≢true e)
-
-small-byte : (b : ℕ) → is_identifier_byte b ≡ true → b < 128
-small-byte b e = search (rules, tests)
-
-all-small : (name : List ℕ) → list_all is_identifier_byte name ≡ true → IsAscii name
-all-small [] e i = omega arith
-all-small (b ∷ bs) e zero = small-byte b (and-left (is_identifier_byte b) (list_all is_identifier_byte bs) e)
-all-small (b ∷ bs) e (suc i) = all-small bs (and-right (is_identifier_byte b) (list_all is_identifier_byte bs) e) i
-
-pub identifier-utf8 : (name : List ℕ) → is_identifier name ≡ true → IsUtf8 name
-identifier-utf8 [] e = absurd (false≢true e)
-identifier-utf8 (b ∷ bs) e = IsUtf8-from_ascii (b ∷ bs) (all-small (b ∷ bs) e)
+-- ---- an identifier
+pub identifier-chars : (name : List ℕ) → is_identifier name ≡ true → AreIdentifierChars name
+identifier-chars name e =
+    let whole = eqb-true (identifier_len name) (length name) (and_parts (nat_lt 0 (length name)) (eqb (identifier_len name) (length name)) e).1 in
+    (run_is_whole name).1 whole
 
 -- ---- further types
 joined-assoc : (a b : List ℕ) (o : Option (List ℕ)) → joined (Some a) (joined (Some b) o) ≡ joined (Some (a ++ b)) o

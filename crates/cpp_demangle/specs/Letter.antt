@@ -1,6 +1,6 @@
 -- A one-letter builtin word at the front.
 use Rattle.std.specs.Prelude.{◌≡◌, ℕ, List, ◌∷◌, Some}
-use Rattle.demangle_vocab.specs.Table.{word_read}
+use Rattle.demangle_vocab.specs.WordTable.{word_read}
 use Rattle.demangle_vocab.specs.Builtins.{builtin_words}
 use Rattle.demangle_grammar.specs.CallText.{letter_text}
 

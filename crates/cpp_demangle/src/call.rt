@@ -3,26 +3,19 @@
 ghost use Rattle.std.specs.Prelude.{◌≡◌, Some, None, MatchOption, IfOk, string_bytes, if◌then◌else◌};
 ghost use Rattle.demangle_text.specs.Spot.{spot};
 ghost use Rattle.cpp_demangle.specs.Letter.{IsLetter};
-ghost use Rattle.demangle_vocab.specs.Table.{word_read};
+ghost use Rattle.demangle_vocab.specs.WordTable.{word_read};
 ghost use Rattle.demangle_vocab.specs.Builtins.{builtin_words};
-ghost use Rattle.demangle_grammar.specs.CallText.{call_text, call_with, identifier_of, is_identifier, is_identifier_byte, joined, letter_text, further_types, type_texts, source_name};
+ghost use Rattle.demangle_grammar.specs.CallText.{call_text, call_with, identifier_of, is_identifier, joined, letter_text, further_types, type_texts, source_name};
 
-use demangle_text::{IndexStr, consume, parse_unsigned};
+use demangle_text::{IndexStr, consume, identifier_len, identifier_str, parse_unsigned};
 use demangle_vocab::StandardBuiltinType;
 use std::alloc::{AllocError, Global};
 
-/// Whether an identifier may have this byte: ASCII letters, digits, `$`, `_` and `.`.
-fn is_identifier_byte(byte: u8) -> bool
-    ensures { result ≡ is_identifier_byte byte }
-{
-    matches!(byte, b'0'..=b'9' | b'A'..=b'Z' | b'a'..=b'z' | b'$' | b'_' | b'.')
-}
-
-/// Whether these bytes are an identifier.
+/// Whether these bytes are an identifier: characters of an identifier, one at least, and nothing else.
 fn is_identifier(name: &[u8]) -> bool
     ensures { result ≡ is_identifier name.now }
 {
-    !name.is_empty() && name.iter().all(|byte| is_identifier_byte(*byte))
+    !name.is_empty() && identifier_len(name) == name.len()
 }
 
 /// The identifier of the source name at the front, and the rest.
@@ -48,10 +41,7 @@ fn identifier<'a>(count: usize, input: IndexStr<'a>) -> Option<(&'a str, IndexSt
     if !is_identifier(name.as_slice()) {
         return None;
     }
-    match str::from_utf8(name.as_slice()) {
-        Ok(name) => Some((name, rest)),
-        Err(_) => None,
-    }
+    Some((identifier_str(name.as_slice()), rest))
 }
 
 /// The text of the one-letter builtin word at the front, and the rest.

@@ -5,7 +5,7 @@ use crate::{DemangleOptions, ParseOptions, SymbolFault, demangle_symbol};
 use std::alloc::{AllocError, AllocFailed, Global};
 
 /// Plain functions' names, and their texts: each builtin type of one letter, in the ABI's order (section 5.1.5.2), and names of several.
-const TEXTS: [(&[u8], &str); 30] = [
+const TEXTS: [(&[u8], &str); 33] = [
     (b"_Z1fv", "f()"),
     (b"_Z1fw", "f(wchar_t)"),
     (b"_Z1fb", "f(bool)"),
@@ -36,10 +36,13 @@ const TEXTS: [(&[u8], &str); 30] = [
     (b"_Z7_GLOBALv", "_GLOBAL()"),
     (b"_Z9a_GLOBAL_v", "a_GLOBAL_()"),
     (b"_Z6printfcz", "printf(char, ...)"),
+    (b"_Z2\xc3\xa9v", "é()"),
+    (b"_Z5a\xe2\x82\xac.i", "a€.(int)"),
+    (b"_Z4\xf0\x9f\xa6\x80v", "🦀()"),
 ];
 
 /// Bytes that are no plain function's name.
-const OTHERS: [&[u8]; 32] = [
+const OTHERS: [&[u8]; 36] = [
     b"",
     b"_",
     b"_Z",
@@ -68,7 +71,11 @@ const OTHERS: [&[u8]; 32] = [
     b"_Z1f1g",
     b"_Z3123i",
     b"_Z2f-v",
-    b"_Z2\xc3\xa9v",
+    b"_Z1\xc3v",
+    b"_Z2\xc0\xafv",
+    b"_Z3\xed\xa0\x80v",
+    b"_Z4\xf4\x90\x80\x80v",
+    b"_Z1\xff",
     b"_Z2f\0v",
     b"_Z99999999999999999999fv",
     b"_ZN1a1bEv",

@@ -1,10 +1,14 @@
 -- Laws on what a sink was given, one write after another.
-use Rattle.std.proofs.Common.{◌≡◌, ℕ, List, [], ◌++◌, length, take, drop, refl, sym, ap, ◌∙◌, append_assoc, take-append-drop, ◌-◌, arith}
+use Rattle.std.proofs.Common.{subst, Result, Ok, Err, ◌≡◌, ℕ, List, [], ◌++◌, length, take, drop, refl, sym, ap, ◌∙◌, append_assoc, take-append-drop, ◌-◌, arith}
 use Rattle.std.proofs.lemmas.Grind.{common_steps}
 use Rattle.std.specs.Prelude.{Option}
 use Rattle.std.specs.Io.KnownBytes.{Appends, Keeps}
 use Rattle.std.proofs.KnownBytes.{Appends-nil, Appends-trans, Appends-kept}
-use Rattle.cppfilt.specs.Moves.{Moves, Begins}
+use Rattle.std.specs.Result.{IsErrAnd}
+use Rattle.cpp_demangle.specs.declared.error.SinkFault.{SinkFault}
+use Rattle.cpp_demangle.specs.declared.error.SinkFault.TheVariants as fault
+use Rattle.cppfilt.specs.Causes.{SinkCause}
+use Rattle.cppfilt.specs.Moves.{Moves, Begins, Gives}
 
 -- nothing was given yet
 pub moves-none : (a : Option (List ℕ)) (whole : List ℕ) → Moves a a whole whole
@@ -67,10 +71,38 @@ flushed-begins a b c x more p q = begins-then a b c (x ++ more) more (flushed a 
 pub begins-first : (a b : Option (List ℕ)) (x p q : List ℕ) → Begins a b (x ++ p) → Begins a b (x ++ (p ++ q))
 begins-first a b x p q m = rw (← append_assoc x p q) (begins-more a b (x ++ p) q m)
 
-pub moves-both : (a b c : Option (List ℕ)) (x p q y z : List ℕ) → Moves a b (x ++ p) y → Moves b c (y ++ q) z → Moves a c (x ++ (p ++ q)) z
-moves-both a b c x p q y z m n = rw (← append_assoc x p q) (moves-then a b c (x ++ p ++ q) (y ++ q) z (moves-more a b (x ++ p) y q m) n)
+-- ---- what calls gave, by their answers
+-- a refusal that is handed on
+pub refusal : {T : Type 0} (a b : Option (List ℕ)) (w0 w1 : ℕ) (r : Result T SinkFault) (e : SinkFault) (x y : List ℕ) → IsErrAnd r (λ e'. e' ≡ e)
+    → SinkCause {T = Unit {0}} w0 w1 (Err e) × Begins a b x → Gives a b w0 w1 r x y
+refusal a b w0 w1 (Ok u) e x y is g = absurd is
+refusal a b w0 w1 (Err fault.Failed) fault.Failed x y is g = g
+refusal a b w0 w1 (Err fault.OutOfMemory) fault.OutOfMemory x y is g = g
+refusal a b w0 w1 (Err fault.Failed) fault.OutOfMemory x y is g = absurd cc
+refusal a b w0 w1 (Err fault.OutOfMemory) fault.Failed x y is g = absurd cc
 
-pub begins-both : (a b c : Option (List ℕ)) (x p q y : List ℕ) → Moves a b (x ++ p) y → Begins b c (y ++ q) → Begins a c (x ++ (p ++ q))
-begins-both a b c x p q y m n = rw (← append_assoc x p q) (begins-then a b c (x ++ p ++ q) (y ++ q) (moves-more a b (x ++ p) y q m) n)
+-- a refusal before anything was given
+pub refusal-none : {T : Type 0} (a : Option (List ℕ)) (w : ℕ) (r : Result T SinkFault) (x y : List ℕ) → IsErrAnd r (λ e. e ≡ fault.OutOfMemory) → Gives a a w w r x y
+refusal-none a w r x y is = refusal a a w w r fault.OutOfMemory x y is (refl, begins-none a x)
+
+-- a refusal after a call that wasn't one
+pub cause-then : (w0 w1 w2 : ℕ) (e : SinkFault) → w1 ≡ w0 → SinkCause {T = Unit {0}} w1 w2 (Err e) → SinkCause {T = Unit {0}} w0 w2 (Err e)
+cause-then w0 w1 w2 e same cause = subst (λ w. SinkCause {T = Unit {0}} w w2 (Err e)) same cause
+
+-- one call after another
+pub gives-then : {T : Type 0} (a b c : Option (List ℕ)) (w0 w1 w2 : ℕ) (r : Result T SinkFault) (x y z : List ℕ) → (w1 ≡ w0) × Moves a b x y → Gives b c w1 w2 r y z → Gives a c w0 w2 r x z
+gives-then a b c w0 w1 w2 (Ok u) x y z p q = (q.0 ∙ p.0, moves-then a b c x y z p.1 q.1)
+gives-then a b c w0 w1 w2 (Err fault.Failed) x y z p q = (rw (← p.0) q.0, begins-then a b c x y p.1 q.1)
+gives-then a b c w0 w1 w2 (Err fault.OutOfMemory) x y z p q = (q.0 ∙ p.0, begins-then a b c x y p.1 q.1)
+
+-- bytes that come behind
+pub gives-more : {T : Type 0} (a b : Option (List ℕ)) (w0 w1 : ℕ) (r : Result T SinkFault) (x y more : List ℕ) → Gives a b w0 w1 r x y → Gives a b w0 w1 r (x ++ more) (y ++ more)
+gives-more a b w0 w1 (Ok u) x y more g = (g.0, moves-more a b x y more g.1)
+gives-more a b w0 w1 (Err e) x y more g = (g.0, begins-more a b x more g.1)
+
+-- two pieces, one behind the other
+pub gives-both : {T : Type 0} (a b c : Option (List ℕ)) (w0 w1 w2 : ℕ) (r : Result T SinkFault) (x p q y z : List ℕ) → (w1 ≡ w0) × Moves a b (x ++ p) y → Gives b c w1 w2 r (y ++ q) z → Gives a c w0 w2 r (x ++ (p ++ q)) z
+gives-both a b c w0 w1 w2 r x p q y z m n =
+    rw (← append_assoc x p q) (gives-then a b c w0 w1 w2 r (x ++ p ++ q) (y ++ q) z (m.0, moves-more a b (x ++ p) y q m.1) n)
 
 pub ruleset move_laws = (moves-none, moves-then, moves-front, moves-kept, moves-more, begins, begins-then, begins-more, begins-none, flushed)

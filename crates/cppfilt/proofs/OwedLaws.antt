@@ -1,12 +1,12 @@
 -- Laws on what is owed behind a line that isn't complete.
-use Rattle.std.proofs.Common.{◌≡◌, ℕ, ◌+◌, ◌<◌, Bool, true, false, cond, eqb, not, List, [], ◌∷◌, ◌++◌, length, take, drop, refl, sym, ap, ◌∙◌, append_assoc, append-nil, arith, rules, tests, length-append, take-append-drop}
+use Rattle.std.proofs.Common.{◌≡◌, ℕ, ◌+◌, ◌<◌, ◌≤◌, Bool, true, false, cond, eqb, not, List, [], ◌∷◌, ◌++◌, length, take, drop, refl, sym, ap, ◌∙◌, append_assoc, append-nil, arith, rules, tests, length-append, take-append-drop}
 use Rattle.std.proofs.lemmas.List.Folds.{prefix_len-append}
 use Rattle.std.proofs.lemmas.List.Sums.{prefix_len-le-length}
-use Rattle.std.proofs.lemmas.Bool.{true≢false}
+use Rattle.std.proofs.lemmas.Bool.{true≢false, false≢true}
 use Rattle.std.proofs.Math.Seq.{take-append_seam, drop-append_seam}
-use Rattle.demangle_grammar.specs.Lines.{before_feed, due, shown_line, line_limit}
-use Rattle.demangle_grammar.proofs.LineLaws.{first-ended, due-held, due-last, long-line, before_feed-append}
-use Rattle.cppfilt.specs.Owed.{passed, owed, completed}
+use Rattle.demangle_grammar.specs.Lines.{before_feed, due, shown_line, line_limit, unfinished}
+use Rattle.demangle_grammar.proofs.LineLaws.{first-ended, due-held, due-last, long-line, before_feed-append, unfinished-goes_on, unfinished-closes}
+use Rattle.cppfilt.specs.Owed.{passed, owed, completed, Kept}
 
 passed-at : (b : ℕ) (bs : List ℕ) → passed (b ∷ bs) ≡ b ∷ cond (eqb b 10) (due bs) (passed bs)
 unfolding passed
@@ -95,3 +95,30 @@ owed-long held front more free unended long =
 pub completed-long : (passing : Bool) (held line : List ℕ) → passing ≡ false → line_limit + 2 < length held + length line → completed passing held line ≡ held ++ line
 completed-long true held line off long = absurd (true≢false off)
 completed-long false held line off long = long-line (held ++ line) (rw length-append long)
+
+-- ---- what is kept of the bytes that have come
+-- behind a line feed nothing is
+pub kept-closed : (held seen line : List ℕ) → before_feed line + 1 ≡ length line → held ≡ [] → Kept false held (seen ++ line)
+kept-closed held seen line ended none = (none ∙ sym (unfinished-closes seen line ended), rw none (omega arith))
+
+-- a line's front is passed on
+pub kept-passing : (passing : Bool) (held seen front : List ℕ) → passing ≡ true → before_feed front ≡ length front → Kept passing held seen → Kept passing held (seen ++ front)
+kept-passing true held seen front on unended k = rw (unfinished-goes_on seen front unended, length-append) (omega arith)
+kept-passing false held seen front on unended k = absurd (false≢true on)
+
+-- a line's front turns out too long
+pub kept-turned : (passing : Bool) (held after seen front : List ℕ) → passing ≡ false → before_feed front ≡ length front → line_limit + 2 < length held + length front → Kept passing held seen → Kept true after (seen ++ front)
+kept-turned true held after seen front off unended long k = absurd (true≢false off)
+kept-turned false held after seen front off unended long k = rw (unfinished-goes_on seen front unended, ← k.0, length-append) long
+
+-- it may still be asked
+pub kept-held : (passing : Bool) (held seen front : List ℕ) → passing ≡ false → before_feed front ≡ length front → length held + length front ≤ line_limit + 2 → Kept passing held seen → Kept passing (held ++ front) (seen ++ front)
+kept-held true held seen front off unended within k = absurd (true≢false off)
+kept-held false held seen front off unended within k = (rw (unfinished-goes_on seen front unended, ← k.0) refl, rw length-append within)
+
+-- one piece after another
+pub kept-start : (passing : Bool) (held seen : List ℕ) → Kept passing held seen → Kept passing held (seen ++ [])
+kept-start passing held seen k = rw append-nil k
+
+pub kept-more : (passing : Bool) (held seen front line : List ℕ) → Kept passing held ((seen ++ front) ++ line) → Kept passing held (seen ++ (front ++ line))
+kept-more passing held seen front line k = rw (← append_assoc seen front line) k

@@ -1,6 +1,8 @@
 -- What a sink was given of bytes that are due.
-use Rattle.std.specs.Prelude.{◌≡◌, ℕ, List, ◌++◌, Option}
+use Rattle.std.specs.Prelude.{◌≡◌, ℕ, List, ◌++◌, Option, Result, Ok, Err}
 use Rattle.std.specs.Io.KnownBytes.{Appends}
+use Rattle.cpp_demangle.specs.declared.error.SinkFault.{SinkFault}
+use Rattle.cppfilt.specs.Causes.{SinkCause}
 
 -- The sink was given the front of `before`, and `after` is still due.
 pub record Moves (old new : Option (List ℕ)) (before after : List ℕ) : Type 0 where
@@ -12,3 +14,9 @@ pub record Moves (old new : Option (List ℕ)) (before after : List ℕ) : Type 
 pub record Begins (old new : Option (List ℕ)) (whole : List ℕ) : Type 0 where
   pub after : List ℕ
   pub moves : Moves old new whole after
+
+-- What a call gave to its sink of the bytes that are due: on Ok a front of them, with `after` still due, else some front of them;
+-- and the sink's count of faults rose only where the sink failed.
+abbrev pub Gives : {T : Type 0} → (old new : Option (List ℕ)) → (faults0 faults1 : ℕ) → Result T SinkFault → (before after : List ℕ) → Type 0
+Gives old new f0 f1 (Ok x) before after = (f1 ≡ f0) × Moves old new before after
+Gives {T = T} old new f0 f1 (Err e) before after = SinkCause {T = T} f0 f1 (Err e) × Begins old new before

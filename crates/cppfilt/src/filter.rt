@@ -1,10 +1,10 @@
 //! From the input to the output, block by block.
 
-ghost use Rattle.std.specs.Prelude.{◌≡◌, ◌+◌, ◌<◌, ◌≤◌, [], length, IfOk};
+ghost use Rattle.std.specs.Prelude.{◌≡◌, ◌+◌, ◌<◌, ◌≤◌, [], length, IfOk, false};
 ghost use Rattle.std.specs.Io.KnownBytes.{ReadConsumes};
-ghost use Rattle.demangle_grammar.specs.Lines.{before_feed, due};
+ghost use Rattle.demangle_grammar.specs.Lines.{before_feed};
 ghost use Rattle.cppfilt.specs.Causes.{SourceCause, TakenCount};
-ghost use Rattle.cppfilt.specs.Outcome.{Stopped, Finished};
+ghost use Rattle.cppfilt.specs.Outcome.{Stopped, Finished, block_limit};
 ghost use Rattle.cppfilt.specs.Owed.{ahead};
 ghost use Rattle.cppfilt.specs.Statuses.{refusal_status};
 
@@ -60,7 +60,8 @@ pub(crate) fn filter_lines<R: Source, W: Sink>(
     output: &mut W,
 ) -> Status
     ensures { Stopped result limit (R.faults input.old) (R.faults input.new) (W.faults output.old) (W.faults output.new)
-        (R.taken input.old) (R.taken input.new) (R.left input.old) (R.left input.new) (W.written output.old) (W.written output.new) due }
+        (R.taken input.old) (R.taken input.new) (R.left input.old) (R.left input.new)
+        (W.written output.old) (W.written output.new) }
 {
     let Ok(mut filter) = LineFilter::new(alloc) else {
         return Status::OutOfMemory;
@@ -71,7 +72,7 @@ pub(crate) fn filter_lines<R: Source, W: Sink>(
     filter_blocks(limit, input, output, &mut filter, block.as_mut_slice())
 }
 
-/// Filters the input with room for one block.
+/// Filters the input with room for one block, by a filter at the beginning of a line.
 fn filter_blocks<R: Source, W: Sink>(
     limit: u64,
     input: &mut R,
@@ -80,10 +81,11 @@ fn filter_blocks<R: Source, W: Sink>(
     block: &mut [u8],
 ) -> Status
     requires room { 0 < length block.old }
-    requires free { before_feed filter.old.held.items ≡ length filter.old.held.items }
+    requires small { length block.old ≤ block_limit }
+    requires fresh { (filter.old.held.items ≡ []) × (filter.old.passing ≡ false) × (filter.old.pending.items ≡ []) }
     ensures { Stopped result limit (R.faults input.old) (R.faults input.new) (W.faults output.old) (W.faults output.new)
-        (R.taken input.old) (R.taken input.new) (R.left input.old) (R.left input.new) (W.written output.old) (W.written output.new)
-        (ahead filter.old.pending.items filter.old.passing filter.old.held.items) }
+        (R.taken input.old) (R.taken input.new) (R.left input.old) (R.left input.new)
+        (W.written output.old) (W.written output.new) }
 {
     let mut taken: u64 = 0;
     while taken < limit {

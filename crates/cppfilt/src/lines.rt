@@ -3,9 +3,8 @@
 ghost use Rattle.std.specs.Prelude.{◌≡◌, ℕ, ◌+◌, ◌≤◌, List, [], ◌∷◌, ◌++◌, length, take, OnOk, IfOk, unwrap_or, vec_len, ◌<◌, MatchOption, false, slice_index, ◌==◌, ◌||◌, fold, drop};
 ghost use Rattle.std.specs.Option.{option_map};
 ghost use Rattle.demangle_grammar.specs.Lines.{before_feed, body, shown, shown_line, due, ending};
-ghost use Rattle.cppfilt.specs.Causes.{SinkCause};
-ghost use Rattle.cppfilt.specs.Moves.{Moves, Begins};
-ghost use Rattle.cppfilt.specs.Owed.{owed, ahead, completed};
+ghost use Rattle.cppfilt.specs.Moves.{Gives};
+ghost use Rattle.cppfilt.specs.Owed.{owed, ahead, completed, Kept};
 ghost use Rattle.cppfilt.specs.Shown.{text_or};
 
 use crate::ends::Sink;
@@ -122,17 +121,14 @@ fn emit_line<W: Sink>(
     pending: &mut Vec<u8>,
     line: &[u8],
 ) -> Result<(), SinkFault>
-    ensures all { OnOk result
-        (Moves (W.written output.old) (W.written output.new) (pending.old.items ++ shown_line line.now) pending.new.items) }
-    ensures front { Begins (W.written output.old) (W.written output.new) (pending.old.items ++ shown_line line.now) }
-    ensures cause { SinkCause (W.faults output.old) (W.faults output.new) result }
+    ensures { Gives (W.written output.old) (W.written output.new) (W.faults output.old) (W.faults output.new) result
+        (pending.old.items ++ shown_line line.now) pending.new.items }
 {
     let end = body_len(line);
     match text_of(alloc, &line[..end])? {
-        None => emit(output, pending, line)?,
-        Some(text) => emit_both(output, pending, text.as_bytes(), &line[end..])?,
+        None => emit(output, pending, line),
+        Some(text) => emit_both(output, pending, text.as_bytes(), &line[end..]),
     }
-    Ok(())
 }
 
 /// Gives on two pieces, one behind the other.
@@ -142,14 +138,11 @@ fn emit_both<W: Sink>(
     first: &[u8],
     second: &[u8],
 ) -> Result<(), SinkFault>
-    ensures all { OnOk result (Moves (W.written output.old) (W.written output.new)
-        (pending.old.items ++ (first.now ++ second.now)) pending.new.items) }
-    ensures front { Begins (W.written output.old) (W.written output.new) (pending.old.items ++ (first.now ++ second.now)) }
-    ensures cause { SinkCause (W.faults output.old) (W.faults output.new) result }
+    ensures { Gives (W.written output.old) (W.written output.new) (W.faults output.old) (W.faults output.new) result
+        (pending.old.items ++ (first.now ++ second.now)) pending.new.items }
 {
     emit(output, pending, first)?;
-    emit(output, pending, second)?;
-    Ok(())
+    emit(output, pending, second)
 }
 
 /// Gives on the line that ends with these bytes: behind a front that was passed on, or behind the bytes that are held.
@@ -161,27 +154,20 @@ fn emit_completed<W: Sink>(
     held: &mut Vec<u8>,
     line: &[u8],
 ) -> Result<(), SinkFault>
-    ensures all { OnOk result (Moves (W.written output.old) (W.written output.new)
-        (pending.old.items ++ completed passing held.old.items line.now) pending.new.items) }
-    ensures front { Begins (W.written output.old) (W.written output.new)
-        (pending.old.items ++ completed passing held.old.items line.now) }
-    ensures cause { SinkCause (W.faults output.old) (W.faults output.new) result }
+    ensures { Gives (W.written output.old) (W.written output.new) (W.faults output.old) (W.faults output.new) result
+        (pending.old.items ++ completed passing held.old.items line.now) pending.new.items }
 {
     if passing {
-        emit(output, pending, line)?;
-        return Ok(());
+        return emit(output, pending, line);
     }
     if held.is_empty() {
-        emit_line(alloc, output, pending, line)?;
-        return Ok(());
+        return emit_line(alloc, output, pending, line);
     }
     if line.len() > HELD_LIMIT.saturating_sub(held.len()) {
-        emit_both(output, pending, held.as_slice(), line)?;
-        return Ok(());
+        return emit_both(output, pending, held.as_slice(), line);
     }
     held.extend_from_slice(line)?;
-    emit_line(alloc, output, pending, held.as_slice())?;
-    Ok(())
+    emit_line(alloc, output, pending, held.as_slice())
 }
 
 /// Gives on what is due for a last line without a line feed.
@@ -193,11 +179,8 @@ fn emit_last<W: Sink>(
     held: &[u8],
 ) -> Result<(), SinkFault>
     requires free { before_feed held.now ≡ length held.now }
-    ensures all { OnOk result (Moves (W.written output.old) (W.written output.new)
-        (pending.old.items ++ owed passing held.now []) pending.new.items) }
-    ensures front { Begins (W.written output.old) (W.written output.new)
-        (pending.old.items ++ owed passing held.now []) }
-    ensures cause { SinkCause (W.faults output.old) (W.faults output.new) result }
+    ensures { Gives (W.written output.old) (W.written output.new) (W.faults output.old) (W.faults output.new) result
+        (pending.old.items ++ owed passing held.now []) pending.new.items }
 {
     if passing {
         return Ok(());
@@ -205,8 +188,7 @@ fn emit_last<W: Sink>(
     if held.len() == 0 {
         return Ok(());
     }
-    emit_line(alloc, output, pending, held)?;
-    Ok(())
+    emit_line(alloc, output, pending, held)
 }
 
 /// What is kept of the input from one block to the next.
@@ -238,12 +220,12 @@ impl LineFilter {
     fn complete<W: Sink>(&mut self, output: &mut W, line: &[u8]) -> Result<(), SinkFault>
         requires free { before_feed self.old.held.items ≡ length self.old.held.items }
         requires ended { before_feed line.now + 1 ≡ length line.now }
-        ensures all { OnOk result ((more : List ℕ) → Moves (W.written output.old) (W.written output.new)
+        ensures gives { (more : List ℕ) → Gives (W.written output.old) (W.written output.new)
+            (W.faults output.old) (W.faults output.new) result
             (ahead self.old.pending.items self.old.passing self.old.held.items (line.now ++ more))
-            (ahead self.new.pending.items self.new.passing self.new.held.items more)) }
-        ensures front { (more : List ℕ) → Begins (W.written output.old) (W.written output.new)
-            (ahead self.old.pending.items self.old.passing self.old.held.items (line.now ++ more)) }
-        ensures cause { SinkCause (W.faults output.old) (W.faults output.new) result }
+            (ahead self.new.pending.items self.new.passing self.new.held.items more) }
+        ensures kept { OnOk result ((seen : List ℕ) → Kept self.old.passing self.old.held.items seen
+            → Kept self.new.passing self.new.held.items (seen ++ line.now)) }
         ensures free { OnOk result (before_feed self.new.held.items ≡ length self.new.held.items) }
     {
         emit_completed(
@@ -263,12 +245,12 @@ impl LineFilter {
     fn hold<W: Sink>(&mut self, output: &mut W, front: &[u8]) -> Result<(), SinkFault>
         requires free { before_feed self.old.held.items ≡ length self.old.held.items }
         requires unended { before_feed front.now ≡ length front.now }
-        ensures all { OnOk result ((more : List ℕ) → Moves (W.written output.old) (W.written output.new)
+        ensures gives { (more : List ℕ) → Gives (W.written output.old) (W.written output.new)
+            (W.faults output.old) (W.faults output.new) result
             (ahead self.old.pending.items self.old.passing self.old.held.items (front.now ++ more))
-            (ahead self.new.pending.items self.new.passing self.new.held.items more)) }
-        ensures front { (more : List ℕ) → Begins (W.written output.old) (W.written output.new)
-            (ahead self.old.pending.items self.old.passing self.old.held.items (front.now ++ more)) }
-        ensures cause { SinkCause (W.faults output.old) (W.faults output.new) result }
+            (ahead self.new.pending.items self.new.passing self.new.held.items more) }
+        ensures kept { OnOk result ((seen : List ℕ) → Kept self.old.passing self.old.held.items seen
+            → Kept self.new.passing self.new.held.items (seen ++ front.now)) }
         ensures free { OnOk result (before_feed self.new.held.items ≡ length self.new.held.items) }
     {
         if self.passing {
@@ -292,12 +274,12 @@ impl LineFilter {
         block: &[u8],
     ) -> Result<(), SinkFault>
         requires free { before_feed self.old.held.items ≡ length self.old.held.items }
-        ensures all { OnOk result ((more : List ℕ) → Moves (W.written output.old) (W.written output.new)
+        ensures gives { (more : List ℕ) → Gives (W.written output.old) (W.written output.new)
+            (W.faults output.old) (W.faults output.new) result
             (ahead self.old.pending.items self.old.passing self.old.held.items (block.now ++ more))
-            (ahead self.new.pending.items self.new.passing self.new.held.items more)) }
-        ensures front { (more : List ℕ) → Begins (W.written output.old) (W.written output.new)
-            (ahead self.old.pending.items self.old.passing self.old.held.items (block.now ++ more)) }
-        ensures cause { SinkCause (W.faults output.old) (W.faults output.new) result }
+            (ahead self.new.pending.items self.new.passing self.new.held.items more) }
+        ensures kept { OnOk result ((seen : List ℕ) → Kept self.old.passing self.old.held.items seen
+            → Kept self.new.passing self.new.held.items (seen ++ block.now)) }
         ensures free { OnOk result (before_feed self.new.held.items ≡ length self.new.held.items) }
         ensures written { OnOk result (self.new.pending.items ≡ []) }
     {
@@ -309,12 +291,12 @@ impl LineFilter {
     /// Gives on what is due for a block of input: line by line, and then the front of a line.
     fn take_lines<W: Sink>(&mut self, output: &mut W, block: &[u8]) -> Result<(), SinkFault>
         requires free { before_feed self.old.held.items ≡ length self.old.held.items }
-        ensures all { OnOk result ((more : List ℕ) → Moves (W.written output.old) (W.written output.new)
+        ensures gives { (more : List ℕ) → Gives (W.written output.old) (W.written output.new)
+            (W.faults output.old) (W.faults output.new) result
             (ahead self.old.pending.items self.old.passing self.old.held.items (block.now ++ more))
-            (ahead self.new.pending.items self.new.passing self.new.held.items more)) }
-        ensures front { (more : List ℕ) → Begins (W.written output.old) (W.written output.new)
-            (ahead self.old.pending.items self.old.passing self.old.held.items (block.now ++ more)) }
-        ensures cause { SinkCause (W.faults output.old) (W.faults output.new) result }
+            (ahead self.new.pending.items self.new.passing self.new.held.items more) }
+        ensures kept { OnOk result ((seen : List ℕ) → Kept self.old.passing self.old.held.items seen
+            → Kept self.new.passing self.new.held.items (seen ++ block.now)) }
         ensures free { OnOk result (before_feed self.new.held.items ≡ length self.new.held.items) }
     {
         let mut rest = block;
@@ -330,11 +312,8 @@ impl LineFilter {
     /// Writes what is due for a last line without a line feed.
     pub(crate) fn finish<W: Sink>(&mut self, output: &mut W) -> Result<(), SinkFault>
         requires free { before_feed self.old.held.items ≡ length self.old.held.items }
-        ensures all { OnOk result (Moves (W.written output.old) (W.written output.new)
-            (ahead self.old.pending.items self.old.passing self.old.held.items []) []) }
-        ensures front { Begins (W.written output.old) (W.written output.new)
-            (ahead self.old.pending.items self.old.passing self.old.held.items []) }
-        ensures cause { SinkCause (W.faults output.old) (W.faults output.new) result }
+        ensures { Gives (W.written output.old) (W.written output.new) (W.faults output.old) (W.faults output.new) result
+            (ahead self.old.pending.items self.old.passing self.old.held.items []) [] }
     {
         emit_last(
             self.alloc,

@@ -1,8 +1,7 @@
 //! Writing what is due to a sink, in as few writes as the length allows.
 
 ghost use Rattle.std.specs.Prelude.{◌≡◌, ◌++◌, [], OnOk};
-ghost use Rattle.cppfilt.specs.Causes.{SinkCause};
-ghost use Rattle.cppfilt.specs.Moves.{Moves, Begins};
+ghost use Rattle.cppfilt.specs.Moves.{Gives};
 
 use crate::ends::Sink;
 use cpp_demangle::error::SinkFault;
@@ -13,9 +12,8 @@ pub(crate) const GATHERED: usize = 256 * 1024;
 /// Writes all the bytes.
 #[tactic(auto, using(crate::proofs::MoveLaws::move_laws))]
 pub(crate) fn write_all<W: Sink>(output: &mut W, bytes: &[u8]) -> Result<(), SinkFault>
-    ensures all { OnOk result (Moves (W.written output.old) (W.written output.new) bytes.now []) }
-    ensures front { Begins (W.written output.old) (W.written output.new) bytes.now }
-    ensures cause { SinkCause (W.faults output.old) (W.faults output.new) result }
+    ensures { Gives (W.written output.old) (W.written output.new) (W.faults output.old) (W.faults output.new) result
+        bytes.now [] }
 {
     let mut rest = bytes;
     while !rest.is_empty() {
@@ -28,10 +26,9 @@ pub(crate) fn write_all<W: Sink>(output: &mut W, bytes: &[u8]) -> Result<(), Sin
 /// Writes what is gathered, and gathers anew.
 #[tactic(auto, using(crate::proofs::MoveLaws::move_laws))]
 pub(crate) fn flush<W: Sink>(output: &mut W, pending: &mut Vec<u8>) -> Result<(), SinkFault>
-    ensures all { OnOk result (Moves (W.written output.old) (W.written output.new) pending.old.items []) }
-    ensures front { Begins (W.written output.old) (W.written output.new) pending.old.items }
+    ensures gives { Gives (W.written output.old) (W.written output.new) (W.faults output.old) (W.faults output.new) result
+        pending.old.items [] }
     ensures gathered { OnOk result (pending.new.items ≡ []) }
-    ensures cause { SinkCause (W.faults output.old) (W.faults output.new) result }
 {
     write_all(output, pending.as_slice())?;
     pending.clear();
@@ -44,10 +41,8 @@ pub(crate) fn emit<W: Sink>(
     pending: &mut Vec<u8>,
     bytes: &[u8],
 ) -> Result<(), SinkFault>
-    ensures all { OnOk result
-        (Moves (W.written output.old) (W.written output.new) (pending.old.items ++ bytes.now) pending.new.items) }
-    ensures front { Begins (W.written output.old) (W.written output.new) (pending.old.items ++ bytes.now) }
-    ensures cause { SinkCause (W.faults output.old) (W.faults output.new) result }
+    ensures { Gives (W.written output.old) (W.written output.new) (W.faults output.old) (W.faults output.new) result
+        (pending.old.items ++ bytes.now) pending.new.items }
 {
     if bytes.len() <= GATHERED.saturating_sub(pending.len()) {
         pending.extend_from_slice(bytes)?;
@@ -58,16 +53,13 @@ pub(crate) fn emit<W: Sink>(
 
 /// Writes what is gathered, and then these bytes, or gathers them.
 fn emit_many<W: Sink>(output: &mut W, pending: &mut Vec<u8>, bytes: &[u8]) -> Result<(), SinkFault>
-    ensures all { OnOk result
-        (Moves (W.written output.old) (W.written output.new) (pending.old.items ++ bytes.now) pending.new.items) }
-    ensures front { Begins (W.written output.old) (W.written output.new) (pending.old.items ++ bytes.now) }
-    ensures cause { SinkCause (W.faults output.old) (W.faults output.new) result }
+    ensures { Gives (W.written output.old) (W.written output.new) (W.faults output.old) (W.faults output.new) result
+        (pending.old.items ++ bytes.now) pending.new.items }
 {
     flush(output, pending)?;
     if bytes.len() < GATHERED {
         pending.extend_from_slice(bytes)?;
         return Ok(());
     }
-    write_all(output, bytes)?;
-    Ok(())
+    write_all(output, bytes)
 }

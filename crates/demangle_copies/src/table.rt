@@ -11,7 +11,7 @@ use std::alloc::Global;
 
 struct ByTryClone;
 
-impl CopyComponent for ByTryClone {
+impl CopyComponent<Substitutable> for ByTryClone {
     fn copy_component(&self, alloc: Global, component: &Substitutable) -> Result<Substitutable> {
         component.try_clone(alloc)
     }

@@ -1,3 +1,4 @@
 pub mod Cuts
 pub mod Resolved
+pub mod Earlier
 pub mod Ends

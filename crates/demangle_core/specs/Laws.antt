@@ -4,7 +4,9 @@ use Rattle.std.specs.Cmp.{IsEquivalence}
 use Rattle.demangle_core.specs.Core.{Core, Which, N, U, same}
 use Rattle.demangle_core.specs.Table.{Table, added, cut, same_tables, size, sizes}
 use Rattle.demangle_core.specs.Sound.{RefsSound}
-use Rattle.demangle_core.specs.Lookups.{Next, after, refers, resolve, leaf_step, leaf_name, Sort, args_step, component_args, template_args, special_step, is_special}
+use Rattle.demangle_core.specs.Lookups.{Next, Sort, after, refers, resolve}
+use Rattle.demangle_core.specs.Lookups.{leaf_step, leaf_name, args_step, component_args, template_args, special_step}
+use Rattle.demangle_core.specs.Lookups.{is_special}
 
 abbrev pub EqualityIsAnEquivalence : Type 0
 EqualityIsAnEquivalence = IsEquivalence same

@@ -1,7 +1,7 @@
--- What is looked up in a name or a type: its leaf name, its template arguments, and whether it is a constructor, a destructor
--- or a conversion. For trees of any kind X, one line a node says what the node has, where that of its parts is known; behind
--- these lines stand the look-ups of a tree with its table.
-use Rattle.std.specs.Prelude.{ℕ, zero, suc, Bool, true, false, ◌+◌, List, [], ◌∷◌, Option, Some, None, is_some}
+-- What is looked up in a name or a type: its leaf name, its template arguments, and whether it is a constructor, a
+-- destructor or a conversion. For trees of any kind X, one line a node says what the node has, where that of its parts
+-- is known; behind these lines stand the look-ups of a tree with its table.
+use Rattle.std.specs.Prelude.{ℕ, zero, suc, ◌+◌, Bool, true, false, List, [], ◌∷◌, Option, Some, None, is_some}
 use Rattle.demangle_core.specs.Core.{Tag, Core, Which, N, U, end, node, place, number, flag, chosen, ref, mark}
 use Rattle.demangle_core.specs.Table.{Table, entry_at, size}
 
@@ -25,8 +25,8 @@ abbrev pub refers : {X : Type 0} → Next X → Bool
 refers (at w k) = true
 refers _ = false
 
--- The first where it comes to an answer or a component, else the second. A component ends the choice even where it turns out
--- to have no answer: what is tried first is a name, and no name of the grammar is a reference.
+-- The first where it comes to an answer or a component, else the second. A component ends the choice even where it
+-- turns out to have no answer: what is tried first is an unqualified name, and none of these is a reference.
 abbrev pub else_next : {X : Type 0} → Next X → Next X → Next X
 else_next nothing b = b
 else_next a b = a
@@ -41,7 +41,8 @@ abbrev pub leaf_word : {X : Type 0} → (table word : ℕ) → X → Next X
 leaf_word (suc (suc zero)) (suc word) x = answer x
 leaf_word _ _ x = nothing
 
--- Of a node x, where `steps` are those of its parts: the node itself, what one part has, or what the name has, else the prefix.
+-- Of a node x, where `steps` are those of its parts: the node itself, what one part has, or what the name has and else
+-- the prefix.
 abbrev pub leaf_node : {X : Type 0} → Tag → X → (steps : List (Next X)) → Next X
 leaf_node Tag.SourceName x steps = answer x
 leaf_node Tag.ClosureTypeName x steps = answer x
@@ -143,7 +144,7 @@ no_word table word x = nothing
 
 -- ---- in a tree with its table
 -- The steps of the trees of a row: of a node by `of`, of a word by `known`. The place where a list began is no tree.
-abbrev pub steps_of : (of : Tag → Core → List (Next Core) → Next Core) → (known : ℕ → ℕ → Core → Next Core)
+abbrev pub steps_of : (of : Tag → Core → List (Next Core) → Next Core) → (known : (table word : ℕ) → Core → Next Core)
     → Core → List (Next Core)
 steps_of of known end = []
 steps_of of known (node t c n) = of t (node t c end) (steps_of of known c) ∷ steps_of of known n
@@ -182,12 +183,15 @@ abbrev pub resolve : (Core → Next Core) → ℕ → Table → Next Core → Op
 resolve step zero t s = answer_of s
 resolve step (suc more) t s = resolve step more t (after step t s)
 
--- A table has only so many components, so only so many are asked.
+-- The answer from where a look-up stands. A table has only so many components, so only so many are asked.
+abbrev pub settled : (Core → Next Core) → Table → Next Core → Option Core
+settled step t s = resolve step (size N t + size U t) t s
+
 unfoldable pub leaf_name : Table → Core → Option Core
-leaf_name t c = resolve leaf_step (size N t + size U t) t (leaf_step c)
+leaf_name t c = settled leaf_step t (leaf_step c)
 
 unfoldable pub template_args : Sort → Table → Core → Option Core
-template_args s t c = resolve (component_args s) (size N t + size U t) t (args_step c)
+template_args s t c = settled (component_args s) t (args_step c)
 
 unfoldable pub is_special : Table → Core → Bool
-is_special t c = is_some (resolve special_step (size N t + size U t) t (special_step c))
+is_special t c = is_some (settled special_step t (special_step c))

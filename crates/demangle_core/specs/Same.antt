@@ -6,7 +6,8 @@ use Rattle.std.proofs.Common.{subst}
 use Rattle.std.specs.Cmp.Lexicographic.{pointwise}
 use Rattle.std.proofs.lemmas.Cmp.{lists_equiv}
 use Rattle.demangle_core.specs.Table.{listed, same_tables}
-use Rattle.demangle_core.specs.Core.{Core, Which, N, U, code, end, node, place, number, flag, chosen, ref, mark, same, same_which, same_flag, alike}
+use Rattle.demangle_core.specs.Core.{Core, Which, N, U, code, end, node, place, number, flag, chosen, ref, mark, same}
+use Rattle.demangle_core.specs.Core.{same_which, same_flag, alike}
 
 abbrev IsSo : Bool → Type 0
 IsSo true = ⊥
@@ -127,5 +128,6 @@ same_tables_equiv = record {
   congr = λ t u v h.
       let numbered = first_so (pointwise same (listed N t) (listed N u)) (pointwise same (listed U t) (listed U u)) h in
       let others = second_so (pointwise same (listed N t) (listed N u)) (pointwise same (listed U t) (listed U u)) h in
-      λ i. rows_equiv.congr (listed N t) (listed N u) (listed N v) numbered i && rows_equiv.congr (listed U t) (listed U u) (listed U v) others i;
+      λ i. rows_equiv.congr (listed N t) (listed N u) (listed N v) numbered i && rows_equiv.congr (listed U t)
+      (listed U u) (listed U v) others i;
 }

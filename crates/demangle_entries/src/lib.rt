@@ -2,6 +2,7 @@
 //! each, and their equality. It exports all node types.
 #![tactic(auto)]
 
+mod component;
 mod entries;
 mod same_entries;
 

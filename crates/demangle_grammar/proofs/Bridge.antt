@@ -13,7 +13,7 @@ use Rattle.demangle_text.specs.Characters.{identifier_len}
 use Rattle.demangle_text.proofs.Runs.{run_inside}
 use Rattle.demangle_text.specs.Word.{starts, missing_word, word_at}
 use Rattle.demangle_text.specs.Number.{natural_at, number_at, natural_from, number_from}
-use Rattle.demangle_vocab.specs.Table.{table_at, word_read, table_from}
+use Rattle.demangle_vocab.specs.WordTable.{table_at, word_read, table_from}
 use Rattle.demangle_grammar.specs.Rule.{Given, Class, Row, Eat, Leaf, Rule}
 use Rattle.demangle_grammar.specs.Tree.{cores, How, shape, component_of, template_entry, taken_of, reference}
 use Rattle.demangle_grammar.specs.Rows.{rule}
@@ -25,7 +25,7 @@ use Rattle.demangle_grammar.specs.Laws.{ReadsCode}
 use Rattle.demangle_grammar.proofs.Numbers.{NaturalAt, natural_fits, NumberAt, number_fits, WordAt, word_fits, starts_so}
 
 -- ---- rows of fields
-plus_end : (a : Core) → a ⊕ end ≡ a
+pub plus_end : (a : Core) → a ⊕ end ≡ a
 plus_end end = refl
 plus_end (node t c n) = ap (λ x. node t c x) (plus_end n)
 plus_end (place i j n) = ap (λ x. place i j x) (plus_end n)

@@ -20,17 +20,17 @@ use Rattle.demangle_grammar.proofs.Bridge.{reads_code}
 use Rattle.demangle_core.proofs.Cuts.{cut_same, cut_added, cut_cut}
 
 -- ---- each state of the program is seen of a state
-abbrev state_of : Here → State
+abbrev pub state_of : Here → State
 state_of h = record { at = h.spot.index; rest = h.spot.left; entries = h.table }
 
 -- ---- what the program read is derived
-abbrev before : List Core → Tree
+abbrev pub before : List Core → Tree
 before acc = Tree.leaf [] (joined acc)
 
-of_trees : (left : ℕ) (r : Row) (c : Bool) (h : Here) (acc : List Core) → replied (cored (read_from trees left r c (state_of h) (before acc))) ≡ cread left r c h acc
+pub of_trees : (left : ℕ) (r : Row) (c : Bool) (h : Here) (acc : List Core) → replied (cored (read_from trees left r c (state_of h) (before acc))) ≡ cread left r c h acc
 of_trees left r c h acc = ap replied (reads_cores left r c (state_of h) (before acc)) ∙ reads_code left r c (state_of h) acc
 
-abbrev here_in : Here → Reply → Here
+abbrev pub here_in : Here → Reply → Here
 here_in d (Found t h) = h
 here_in d (Refused k) = d
 

@@ -1,59 +1,16 @@
 -- Expanding follows each reference: with as many steps as there are entries, and more change nothing.
 use Rattle.std.specs.Prelude.{◌≡◌, ℕ, zero, suc, ◌<◌, ◌≤◌, Bool, true, false, List, [], ◌∷◌, ◌++◌, length, Option, Some, None, slice_get}
-use Rattle.std.proofs.Common.{refl, ap, ◌∙◌, sym, subst, append_assoc, arith}
+use Rattle.std.proofs.Common.{refl, ap, ◌∙◌, sym, subst, arith}
 use Rattle.demangle_core.specs.Core.{Core, Tag, Which, same_which}
 use Rattle.demangle_core.specs.Core as core
 use Rattle.demangle_core.specs.Table.{Entry, Table, count, count_if, listed, more_if, entry_at}
 use Rattle.demangle_core.specs.Sound.{RefersTo, ReferBack}
+use Rattle.demangle_core.proofs.Earlier.{Earlier, earlier}
 use Rattle.demangle_grammar.specs.Expand.{Expanded, node, bytes, number, flag, chosen, in_place, expand_with, expand_upto, expand, IsExpanded}
 use Rattle.demangle_grammar.specs.Laws.{FollowsReferences, ExpandsEntries, ExpandsAll}
 use Rattle.demangle_grammar.specs.Sound.{IsComponent, EachEntry, bytes_of}
 use Rattle.demangle_grammar.proofs.Kept.{append-nil}
 use Rattle.std.proofs.lemmas.Option.{slice_get_within}
-
--- ---- an entry of a table refers to those before it
--- The entry at a position of the entries e, which stand behind b and before r.
-pub record Found (b : List Entry) (w : Which) (k : ℕ) (e r : List Entry) : Type 0 where
-  pub tree : Core
-  pub before : List Entry
-  pub rest : List Entry
-  pub parts : e ++ r ≡ before ++ rest
-  pub shorter : length before < length e
-  pub there : slice_get (listed w (e ++ r)) k ≡ Some tree
-  pub back : RefersTo (b ++ before) tree
-
-module _ (b : List Entry) (w : Which) (x : Entry) (e r : List Entry) where
-  found_here : RefersTo b x.tree → same_which w x.which ≡ true → Found b w zero (x ∷ e) r
-  found_here h same = record {
-    tree = x.tree;
-    before = [];
-    rest = (x ∷ e) ++ r;
-    parts = refl;
-    shorter = omega arith;
-    there = ap (λ s. slice_get (more_if s x.tree (listed w (e ++ r))) zero) same;
-    back = subst (λ l. RefersTo l x.tree) (sym (append-nil b)) h;
-  }
-
-  found_behind : (j k : ℕ) → Found (b ++ x ∷ []) w j e r → slice_get (listed w ((x ∷ e) ++ r)) k ≡ slice_get (listed w (e ++ r)) j → Found b w k (x ∷ e) r
-  found_behind j k f behind = record {
-    tree = f.tree;
-    before = x ∷ f.before;
-    rest = f.rest;
-    parts = ap (λ l. x ∷ l) f.parts;
-    shorter = omega (arith, f.shorter);
-    there = behind ∙ f.there;
-    back = subst (λ l. RefersTo l f.tree) (append_assoc b (x ∷ []) f.before) f.back;
-  }
-
-  found_step : (s : Bool) (k : ℕ) → same_which w x.which ≡ s → RefersTo b x.tree
-      → ((j : ℕ) → j < count w e → Found (b ++ x ∷ []) w j e r) → k < count_if s (count w e) → Found b w k (x ∷ e) r
-  found_step true zero same h f l = found_here h same
-  found_step true (suc k) same h f l = found_behind k (suc k) (f k (omega arith)) (ap (λ s. slice_get (more_if s x.tree (listed w (e ++ r))) (suc k)) same)
-  found_step false k same h f l = found_behind k k (f k l) (ap (λ s. slice_get (more_if s x.tree (listed w (e ++ r))) k) same)
-
-pub found : (b : List Entry) (w : Which) (k : ℕ) (e r : List Entry) → ReferBack b (e ++ r) → k < count w e → Found b w k e r
-found b w k [] r h l = absurd (omega arith)
-found b w k (x ∷ e) r h l = found_step b w x e r (same_which w x.which) k refl h.0 (λ j m. found (b ++ x ∷ []) w j e r h.1 m) l
 
 -- ---- expanding depends on what stands in place of the references alone
 same_with : (e : List Entry) (f g : Which → ℕ → Expanded → Expanded) (input : List ℕ) → ((w : Which) (k : ℕ) (n : Expanded) → k < count w e → f w k n ≡ g w k n)
@@ -86,7 +43,7 @@ module _ (table : Table) (input : List ℕ) (back : ReferBack [] table) where
   enough (suc a) (suc b) e r p l m c s =
       same_with e _ _ input
       (λ w k n h.
-      let f : Found [] w k e r = found [] w k e r (subst (ReferBack []) p back) h in
+      let f : Earlier [] w k e r = earlier [] w k e r (subst (ReferBack []) p back) h in
       let there : entry_at w k table ≡ Some f.tree = ap (λ t. slice_get (listed w t) k) p ∙ f.there in
       let same : in_place (λ x. expand_upto a table input x) (Some f.tree) n ≡ in_place (λ x. expand_upto b table input x) (Some f.tree) n =
       same_place f.before _ _ (λ d q. enough a b f.before f.rest (p ∙ f.parts) (omega (arith, f.shorter, l)) (omega (arith, f.shorter, m)) d q) f.tree f.back n in
@@ -130,7 +87,7 @@ module _ (table : Table) (input : List ℕ) (back : ReferBack [] table) (kinds :
   all (suc a) e r p l c s =
       all_with e _ input
       (λ w k n h i.
-      let f : Found [] w k e r = found [] w k e r (subst (ReferBack []) p back) h in
+      let f : Earlier [] w k e r = earlier [] w k e r (subst (ReferBack []) p back) h in
       let there : entry_at w k table ≡ Some f.tree = ap (λ t. slice_get (listed w t) k) p ∙ f.there in
       subst (λ y. IsExpanded (in_place (λ x. expand_upto a table input x) y n)) (sym there)
       (all_place f.before _ (λ d q. all a f.before f.rest (p ∙ f.parts) (omega (arith, f.shorter, l)) d q) f.tree f.back (each_listed IsComponent w table k f.tree kinds there) n i))
@@ -162,7 +119,7 @@ entry_expands : (table : Table) (input : List ℕ) (w : Which) (k most : ℕ) (x
     → in_place (λ c. expand_upto most table input c) (Some x) n ≡ in_place (λ c. expand table input c) (Some x) n
 unfolding expand entry_at
 entry_expands table input w k most x b e l n =
-    let f : Found [] w k table [] = found [] w k table [] (subst (ReferBack []) (sym (append-nil table)) b) (counts w k table x e) in
+    let f : Earlier [] w k table [] = earlier [] w k table [] (subst (ReferBack []) (sym (append-nil table)) b) (counts w k table x e) in
     let there : slice_get (listed w table) k ≡ Some f.tree = ap (λ t. slice_get (listed w t) k) (sym (append-nil table)) ∙ f.there in
     let it : f.tree ≡ x = ap (option_tree x) (sym there ∙ e) in
     same_place f.before _ _ (λ c r. enough table input b most (length table) f.before f.rest (sym (append-nil table) ∙ f.parts) (omega (arith, f.shorter, l)) (omega (arith, f.shorter)) c r) x

@@ -25,10 +25,10 @@ use Rattle.demangle_text.specs.Characters.{AreIdentifierChars, identifier_len}
 use Rattle.demangle_text.proofs.Identifiers.{run_is_chars}
 use Rattle.demangle_text.proofs.Runs.{run_inside}
 use Rattle.demangle_grammar.proofs.Numbers.{span_all, NaturalAt, natural_fits, NumberAt, WordAt, word_fits, number_fits}
-use Rattle.demangle_vocab.specs.Table.{table_at}
+use Rattle.demangle_vocab.specs.WordTable.{table_at}
 
 -- ---- what is found
-abbrev Is : Eat → ℕ → List ℕ → Found Core → Type 0
+abbrev pub Is : Eat → ℕ → List ℕ → Found Core → Type 0
 Is x at bs (took n f) = IsOne x at (take n bs) f
 Is x at bs (none k) = Unit {0}
 
@@ -81,7 +81,7 @@ digit_is at (b ∷ bs) = by (is_digit b) refl
     by true e = (b, e, refl, refl)
     by false e = tt
 
-found_is : (x : Eat) (at : ℕ) (bs : List ℕ) → Is x at bs (find x at bs)
+pub found_is : (x : Eat) (at : ℕ) (bs : List ℕ) → Is x at bs (find x at bs)
 found_is (Eat.run c) at bs = run_is c at bs
 found_is Eat.identifier at bs = identifier_is at bs
 found_is (Eat.upto b) at bs = let a = span_all (λ x. not (x == b)) bs in (a.0, ap (λ k. place at (at + k) end) (sym a.1))
@@ -93,7 +93,7 @@ found_is (Eat.give c) at bs = (refl, refl)
 found_is Eat.here at bs = (refl, refl)
 
 -- ---- a leaf
-so_stands : (P : State → Tree → Type 0) (b : Bool) (k : Cause) (go : Unit {0} → Answer Tree) → (b ≡ true → Holds P (go tt)) → Holds P (where_so trees answer go_on b k go)
+pub so_stands : (P : State → Tree → Type 0) (b : Bool) (k : Cause) (go : Unit {0} → Answer Tree) → (b ≡ true → Holds P (go tt)) → Holds P (where_so trees answer go_on b k go)
 so_stands P true k go h = h refl
 so_stands P false k go h = tt
 

@@ -17,7 +17,7 @@ use Rattle.demangle_text.specs.Kind.{Cause, Text, Bad}
 use Rattle.demangle_text.specs.Found.{Found, took, none, mapped}
 use Rattle.demangle_text.specs.Bytes.{is_digit, span}
 use Rattle.demangle_text.specs.Characters.{identifier_len}
-use Rattle.demangle_vocab.specs.Table.{table_at}
+use Rattle.demangle_vocab.specs.WordTable.{table_at}
 use Rattle.demangle_grammar.proofs.Numbers.{starts_so}
 
 pub record Keeps (s : State) (a : Tree) (t : State) (c : Tree) : Type 0 where
@@ -156,7 +156,7 @@ no_entry : (es : List Entry) → IsOfEntry end es
 no_entry [] = refl
 no_entry (x ∷ es) = inr (no_entry es)
 
-of_entry : (c : Core) (es : List Entry) → IsOfEntry (prefix_entry c es) es
+pub of_entry : (c : Core) (es : List Entry) → IsOfEntry (prefix_entry c es) es
 of_entry c es = by (last_component c)
   where
     by : (x : Option (Which × ℕ)) → IsOfEntry (entry_of x es) es

@@ -25,3 +25,9 @@ pub mod ReadRows1
 pub mod ByHand
 pub mod Expands
 pub mod SayTheSame
+pub mod Stands
+pub mod Fields
+pub mod Shapes
+pub mod PartsKnown
+pub mod Sounds
+pub mod SoundFor

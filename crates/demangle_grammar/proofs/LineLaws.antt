@@ -1,11 +1,12 @@
 -- Laws on the lines of an input: what is due once a line feed is seen, at the end, and behind a line that is too long.
-use Rattle.std.proofs.Common.{eq-eqb, get_or, ◌≡◌, ℕ, suc, ◌+◌, ◌-◌, ◌<◌, ◌≤◌, Bool, true, false, cond, eqb, not, List, [], ◌∷◌, ◌++◌, length, take, drop, refl, sym, ap, ◌∙◌, append-nil, arith, rules, length-append, length-take-le, take-append-drop, nat_le, tests}
+use Rattle.std.proofs.Common.{eq-eqb, get_or, ◌≡◌, ℕ, suc, ◌+◌, ◌-◌, ◌<◌, ◌≤◌, Bool, true, false, cond, eqb, ltb, not, List, [], ◌∷◌, ◌++◌, length, take, drop, refl, sym, ap, ◌∙◌, append_assoc, append-nil, fold, arith, rules, length-append, length-take-le, take-append-drop, nat_le, tests}
 use Rattle.std.proofs.lemmas.Grind.{common_steps}
 use Rattle.std.proofs.lemmas.List.Folds.{prefix_len-append}
-use Rattle.std.proofs.Math.Seq.{take-append-add, drop-append-add, take-length}
+use Rattle.std.proofs.lemmas.List.Sums.{fold-append}
+use Rattle.std.proofs.Math.Seq.{take-append-add, drop-append-add, take-length, take-append_seam}
 use Rattle.std.specs.Prelude.{unwrap_or, None}
 use Rattle.demangle_grammar.specs.CallText.{call_text}
-use Rattle.demangle_grammar.specs.Lines.{before_feed, lines, onto_first, shown, shown_line, due, body, ending, without_last, line_limit}
+use Rattle.demangle_grammar.specs.Lines.{before_feed, lines, onto_first, shown, shown_line, due, body, ending, without_last, line_limit, line_after, unfinished, complete, due_so_far}
 
 lines-at : (b : ℕ) (bs : List ℕ) → lines (b ∷ bs) ≡ cond (eqb b 10) ((b ∷ []) ∷ lines bs) (onto_first b (lines bs))
 unfolding lines
@@ -162,3 +163,107 @@ pub call-other : (b : List ℕ) → eqb (get_or b 0 0) 95 ≡ false → call_tex
 unfolding call_text
 call-other [] other = refl
 call-other (x ∷ xs) other = let e : eqb 95 x ≡ false = search (rules, tests) in rw e refl
+
+-- ---- a line that isn't complete
+-- behind bytes without a line feed it goes on
+abbrev GoesOn : List ℕ → Type 0
+GoesOn x = (line : List ℕ) → before_feed x ≡ length x → fold line_after line x ≡ line ++ x
+
+goes_on-step : (b : ℕ) (bs : List ℕ) (t : Bool) → eqb b 10 ≡ t → GoesOn bs → GoesOn (b ∷ bs)
+goes_on-step b bs true e ih line free = absurd (let f = rw e at free in omega arith)
+goes_on-step b bs false e ih line free =
+    let free' : before_feed bs ≡ length bs = (let f = rw e at free in omega arith) in
+    rw e (ih (line ++ b ∷ []) free' ∙ append_assoc line (b ∷ []) bs)
+
+goes_on : (x : List ℕ) → GoesOn x
+goes_on [] line free = sym (append-nil line)
+goes_on (b ∷ bs) line free = goes_on-step b bs (eqb b 10) refl (goes_on bs) line free
+
+pub unfinished-goes_on : (x front : List ℕ) → before_feed front ≡ length front → unfinished (x ++ front) ≡ unfinished x ++ front
+unfolding unfinished
+unfinished-goes_on x front free = fold-append line_after [] x front ∙ goes_on front (fold line_after [] x) free
+
+-- behind a line feed nothing is left of it
+abbrev Closes : List ℕ → Type 0
+Closes x = (line : List ℕ) → before_feed x + 1 ≡ length x → fold line_after line x ≡ []
+
+closes-step : (b : ℕ) (bs : List ℕ) (t : Bool) → eqb b 10 ≡ t → Closes bs → Closes (b ∷ bs)
+closes-step b [] true e ih line ended = rw e refl
+closes-step b (c ∷ cs) true e ih line ended = absurd (let f = rw e at ended in omega arith)
+closes-step b bs false e ih line ended =
+    let ended' : before_feed bs + 1 ≡ length bs = (let f = rw e at ended in omega arith) in
+    rw e (ih (line ++ b ∷ []) ended')
+
+closes : (x : List ℕ) → Closes x
+closes [] line ended = absurd (omega arith)
+closes (b ∷ bs) line ended = closes-step b bs (eqb b 10) refl (closes bs) line ended
+
+pub unfinished-closes : (x line : List ℕ) → before_feed line + 1 ≡ length line → unfinished (x ++ line) ≡ []
+unfolding unfinished
+unfinished-closes x line ended = fold-append line_after [] x line ∙ closes line (fold line_after [] x) ended
+
+pub unfinished-nil : unfinished [] ≡ []
+unfolding unfinished
+unfinished-nil = refl
+
+-- an input is its complete lines and the line that isn't complete
+record Parts (x rest : List ℕ) : Type 0 where
+  whole : List ℕ
+  joins : x ≡ whole ++ rest
+  due_parts : due x ≡ due whole ++ due rest
+  free : before_feed rest ≡ length rest
+
+HasParts : List ℕ → Type 0
+HasParts x = (line : List ℕ) → before_feed line ≡ length line → Parts (line ++ x) (fold line_after line x)
+
+parts-step : (b : ℕ) (bs : List ℕ) (t : Bool) → eqb b 10 ≡ t → HasParts bs → HasParts (b ∷ bs)
+unfolding HasParts
+parts-step b bs true e ih line free =
+    let p = ih [] refl in
+    let none : before_feed (b ∷ bs) ≡ 0 = rw e refl in
+    let none' : before_feed (b ∷ p.whole) ≡ 0 = rw e refl in
+    rw e record {
+      whole = line ++ b ∷ p.whole;
+      joins = ap (λ l. line ++ b ∷ l) p.joins ∙ sym (append_assoc line (b ∷ p.whole) (fold line_after [] bs));
+      due_parts = rw (due-held line (b ∷ bs) free (omega arith), due-held line (b ∷ p.whole) free (omega arith), none, none', p.due_parts)
+          (sym (append_assoc (shown_line (line ++ b ∷ [])) (due p.whole) (due (fold line_after [] bs))));
+      free = p.free;
+    }
+parts-step b bs false e ih line free =
+    let one : before_feed (b ∷ []) ≡ 1 = rw e refl in
+    let free' : before_feed (line ++ b ∷ []) ≡ length (line ++ b ∷ []) = rw (before_feed-append line (b ∷ []) free, one, length-append) refl in
+    rw (e, ← append_assoc line (b ∷ []) bs) (ih (line ++ b ∷ []) free')
+
+parts : (x : List ℕ) → HasParts x
+unfolding HasParts
+parts [] line free = record { whole = []; joins = append-nil line; due_parts = rw (append-nil line, due-nil) refl; free = free }
+parts (b ∷ bs) line free = parts-step b bs (eqb b 10) refl (parts bs) line free
+
+pub unfinished-free : (x : List ℕ) → before_feed (unfinished x) ≡ length (unfinished x)
+unfolding unfinished HasParts
+unfinished-free x = (parts x [] refl).free
+
+complete-whole : (whole rest x : List ℕ) → x ≡ whole ++ rest → take (length x - length rest) x ≡ whole
+complete-whole whole rest x e =
+    let n : length (whole ++ rest) - length rest ≡ length whole = (let l = length-append whole rest in omega arith) in
+    rw (e, n) (take-append_seam whole rest)
+
+pub due-parts : (x : List ℕ) → due x ≡ due (complete x) ++ due (unfinished x)
+unfolding unfinished HasParts
+due-parts x = let p = parts x [] refl in rw (complete-whole p.whole (fold line_after [] x) x p.joins) p.due_parts
+
+-- ---- what is due so far
+pub so_far-short : (x : List ℕ) → length (unfinished x) ≤ line_limit + 2 → due_so_far x ≡ due (complete x)
+unfolding due_so_far
+so_far-short x h = let e : ltb (line_limit + 2) (length (unfinished x)) ≡ false = search (rules, tests) in rw (e, append-nil) refl
+
+pub so_far-long : (x : List ℕ) → line_limit + 2 < length (unfinished x) → due_so_far x ≡ due x
+unfolding due_so_far
+so_far-long x h =
+    let e : ltb (line_limit + 2) (length (unfinished x)) ≡ true = search (rules, tests) in
+    let line = due-last (unfinished x) (unfinished-free x) (omega arith) ∙ long-line (unfinished x) h in
+    rw (e, due-parts x, line) refl
+
+pub so_far-nil : due_so_far [] ≡ []
+unfolding due_so_far unfinished
+so_far-nil = append-nil (due []) ∙ due-nil

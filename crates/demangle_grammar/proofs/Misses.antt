@@ -16,7 +16,7 @@ use Rattle.demangle_text.specs.Characters.{begins_char, identifier_len}
 use Rattle.demangle_text.proofs.Identifiers.{run_begins}
 use Rattle.demangle_grammar.proofs.Numbers.{Missing, span_zero, mapped_missing, number_missing, word_missing}
 use Rattle.demangle_grammar.proofs.Truth.{or_false}
-use Rattle.demangle_vocab.specs.Table.{table_at}
+use Rattle.demangle_vocab.specs.WordTable.{table_at}
 
 abbrev pub Fails : Answer Tree → Type 0
 Fails (No false k) = Unit {0}

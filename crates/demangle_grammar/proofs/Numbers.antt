@@ -8,7 +8,7 @@ use Rattle.demangle_text.specs.Found.{Found, took, none, mapped, behind}
 use Rattle.demangle_text.specs.Bytes.{span}
 use Rattle.demangle_text.specs.Word.{starts}
 use Rattle.demangle_text.specs.Number.{is_digit_in, leads_with_zero, value_of, natural_of, natural_at, number_at, negative, run_of}
-use Rattle.demangle_vocab.specs.Table.{no_word, word_in, word_or, table_at}
+use Rattle.demangle_vocab.specs.WordTable.{no_word, word_in, word_or, table_at}
 use Rattle.demangle_grammar.specs.Rule.{Eat, Leaf}
 use Rattle.demangle_grammar.specs.Fits.{AllOf, IsSome, IsNumber, IsNumeral, IsWordAt}
 use Rattle.demangle_grammar.specs.First.{no_empty, heads, begins_leaf, Misses}

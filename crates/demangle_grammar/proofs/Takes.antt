@@ -18,7 +18,7 @@ use Rattle.demangle_text.specs.Kind.{Cause, Text}
 use Rattle.demangle_text.specs.Found.{Found, took, none, mapped}
 use Rattle.demangle_text.specs.Bytes.{is_digit}
 use Rattle.demangle_grammar.proofs.Numbers.{NaturalAt, natural_fits, NumberAt, WordAt, word_fits, number_fits}
-use Rattle.demangle_vocab.specs.Table.{table_at}
+use Rattle.demangle_vocab.specs.WordTable.{table_at}
 
 -- ---- what is found takes a byte
 abbrev pub Takes : {A : Type 0} → List ℕ → Found A → Type 0

@@ -6,7 +6,7 @@ use Rattle.demangle_text.specs.Characters.{identifier_len}
 use Rattle.demangle_text.specs.Found.{Found, took, none}
 use Rattle.demangle_text.specs.Number.{natural_at}
 use Rattle.demangle_text.specs.Word.{starts}
-use Rattle.demangle_vocab.specs.Table.{text_at, word_read}
+use Rattle.demangle_vocab.specs.WordTable.{text_at, word_read}
 use Rattle.demangle_vocab.specs.Builtins.{builtins, builtin_words}
 
 -- ---- the source name: a number, and an identifier of just so many bytes (ABI section 5.1.2, <source-name>)

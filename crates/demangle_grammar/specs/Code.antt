@@ -12,7 +12,7 @@ use Rattle.demangle_core.specs.Table.{Table, added, size}
 use Rattle.demangle_grammar.specs.Rule.{Given, Class, Row, Eat, Leaf, Rule}
 use Rattle.demangle_grammar.specs.Tree.{How, shape, component_of, template_entry, taken_of, reference}
 use Rattle.demangle_grammar.specs.Rows.{rule}
-use Rattle.demangle_vocab.specs.Table.{table_from}
+use Rattle.demangle_vocab.specs.WordTable.{table_from}
 use Rattle.demangle_grammar.specs.Reading.{find, holds, refusal, marks, given, next_is, is_empty, prefix_entry}
 use Rattle.demangle_grammar.specs.Reading.{is_nestable}
 

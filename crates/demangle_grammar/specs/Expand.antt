@@ -1,5 +1,5 @@
--- Trees without their table and their input: in place of each reference stands the entry that it is to, in place of each place
--- its bytes.
+-- Trees without their table and their input: in place of each reference stands the entry that it is to, in place of
+-- each place its bytes.
 use Rattle.std.specs.Prelude.{ℕ, zero, suc, ℤ, Bool, List, length, Option, Some}
 use Rattle.demangle_core.specs.Core.{Core, Tag, Which}
 use Rattle.demangle_core.specs.Core as core
@@ -22,8 +22,8 @@ abbrev pub in_place : (Core → Expanded) → Option Core → (next : Expanded) 
 in_place of (Some (core.node kind c m)) n = node kind (of c) n
 in_place of _ n = nothing n
 
--- With what stands in place of a reference. A reference is the only thing in a node, its handle, of which nothing stays; nor does
--- the place where an argument list began.
+-- With what stands in place of a reference. A reference is the only thing in a node, its handle, of which nothing
+-- stays; nor does the place where an argument list began.
 abbrev pub expand_with : (Which → ℕ → (next : Expanded) → Expanded) → List ℕ → Core → Expanded
 expand_with of input core.end = end
 expand_with of input (core.node handle (core.ref w k m) n) = of w k (expand_with of input n)
@@ -41,8 +41,8 @@ expand_upto zero table input c = expand_with (λ w k n. nothing n) input c
 expand_upto (suc most) table input c =
     expand_with (λ w k n. in_place (λ x. expand_upto most table input x) (entry_at w k table) n) input c
 
--- A tree with its references followed. In a sound tree and table each reference is to an earlier entry, so that as many
--- steps as there are entries are enough.
+-- A tree with its references followed. In a sound tree and table each reference is to an earlier entry, so that as
+-- many steps as there are entries are enough.
 unfoldable pub expand : Table → List ℕ → Core → Expanded
 expand table input c = expand_upto (length table) table input c
 

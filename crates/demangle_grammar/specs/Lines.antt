@@ -1,5 +1,5 @@
 -- The lines of an input, and what a line filter owes for them.
-use Rattle.std.specs.Prelude.{ℕ, ◌-◌, List, [], ◌∷◌, ◌++◌, length, take, drop, slice_index, flat_map, nat_le, ◌==◌, if◌then◌else◌, unwrap_or, not}
+use Rattle.std.specs.Prelude.{ℕ, ◌+◌, ◌-◌, List, [], ◌∷◌, ◌++◌, length, take, drop, slice_index, flat_map, nat_le, nat_lt, ◌==◌, if◌then◌else◌, unwrap_or, not, fold}
 use Rattle.std.specs.List.{prefix_len}
 use Rattle.demangle_grammar.specs.CallText.{call_text}
 
@@ -43,3 +43,20 @@ shown_line l = shown (body l) ++ ending l
 -- what is due for an input: each line's bytes as they are shown, with its ending as it stood
 unfoldable pub due : List ℕ → List ℕ
 due input = flat_map shown_line (lines input)
+
+-- what has come of a line, after one more byte: nothing behind a line feed
+abbrev pub line_after : List ℕ → ℕ → List ℕ
+line_after line b = if b == 10 then [] else line ++ b ∷ []
+
+-- the bytes behind the last line feed: of a line that isn't complete
+unfoldable pub unfinished : List ℕ → List ℕ
+unfinished input = fold line_after [] input
+
+-- the complete lines of an input: its bytes through the last line feed
+abbrev pub complete : List ℕ → List ℕ
+complete input = take (length input - length (unfinished input)) input
+
+-- What is due for an input, whatever comes behind it: what is due for its complete lines, and behind it the bytes of a line that
+-- isn't complete, where they are more than those of a line that may be asked and of an ending.
+unfoldable pub due_so_far : List ℕ → List ℕ
+due_so_far input = due (complete input) ++ (if nat_lt (line_limit + 2) (length (unfinished input)) then unfinished input else [])

@@ -9,7 +9,7 @@ use Rattle.demangle_text.specs.Bytes.{is_digit, is_capital, is_small, span}
 use Rattle.demangle_text.specs.Characters.{identifier_len}
 use Rattle.demangle_text.specs.Word.{starts, missing_word}
 use Rattle.demangle_text.specs.Number.{number_at, natural_at}
-use Rattle.demangle_vocab.specs.Table.{table_at, more_at}
+use Rattle.demangle_vocab.specs.WordTable.{table_at, more_at}
 use Rattle.demangle_vocab.specs.Operators.{operators}
 use Rattle.demangle_grammar.specs.Rule.{Class, Row, Eat, Cond, Given, Mark, Leaf, Rule}
 use Rattle.demangle_grammar.specs.Tree.{Tree, How, nil, component_of, template_entry, Parts, trees}

@@ -1,8 +1,12 @@
-//! The grammar of mangled names as data, its ordered reading, and what holds of every reading. Nothing here runs: each function
-//! is a law, and its contract is the statement. docs/GRAMMAR.md leads through the definitions.
+//! The grammar of mangled names as data, its ordered reading, and what holds of every reading. Nothing here runs:
+//! each function is a law, and its contract is the statement. docs/GRAMMAR.md leads through the definitions.
 #![tactic(auto)]
 
-ghost use Rattle.demangle_grammar.specs.Laws.{Spells, GoesOn, IsFit, AddsComponents, IsSound, RefersBack, SoundRefers, FollowsReferences, ExpandsEntries, ExpandsAll, Ends, HasNoLimit, IsLimited, IsIdle, ReadsCores, ReadsCode, CompletesPointer, CompletesPrefixes, GivesBack, TakesByte, NoLonger, KeepsIndex};
+ghost use Rattle.demangle_grammar.specs.Laws.{Spells, GoesOn, IsFit, AddsComponents, IsSound, RefersBack, ReadsSound};
+ghost use Rattle.demangle_grammar.specs.Laws.{FindsSound, NameIsSound, SoundRefers, FollowsReferences};
+ghost use Rattle.demangle_grammar.specs.Laws.{ExpandsEntries, ExpandsAll, Ends, HasNoLimit, IsLimited, IsIdle};
+ghost use Rattle.demangle_grammar.specs.Laws.{ReadsCores, ReadsCode, CompletesPointer, CompletesPrefixes, GivesBack};
+ghost use Rattle.demangle_grammar.specs.Laws.{TakesByte, NoLonger, KeepsIndex};
 
 /// A tree that was read spells just the bytes that were read.
 pub fn spells()
@@ -14,12 +18,14 @@ pub fn goes_on()
     ensures { GoesOn }
 {}
 
-/// A tree that was read fits the rows: a check on the finished tree, with no order of alternatives, no level and no trial.
+/// A tree that was read fits the rows: a check on the finished tree, with no order of alternatives, no level and no
+/// trial.
 pub fn fits()
     ensures { IsFit }
 {}
 
-/// The entries behind a reading are the old ones, followed by the cores of the tree's components in order of completion.
+/// The entries behind a reading are the old ones, followed by the cores of the tree's components in order of
+/// completion.
 pub fn adds_components()
     ensures { AddsComponents }
 {}
@@ -34,6 +40,24 @@ pub fn refers_back()
     ensures { RefersBack }
 {}
 
+/// What is read in an input, from entries that are sound for it, is sound for it, as are the entries behind the
+/// reading: each place lies in the input and holds bytes that its row reads, each function type has a result, each
+/// entry is of its kind.
+pub fn reads_sound()
+    ensures { ReadsSound }
+{}
+
+/// What the reading in the program's form finds in an input, from a table that is sound for it, is sound for it.
+pub fn finds_sound()
+    ensures { FindsSound }
+{}
+
+/// What is found at the front of an input, with no components before it, is sound for the input: as a symbol can
+/// promise.
+pub fn name_is_sound()
+    ensures { NameIsSound }
+{}
+
 /// A node and a table that are sound for an input are sound in their references.
 pub fn sound_refers()
     ensures { SoundRefers }
@@ -44,12 +68,12 @@ pub fn follows_references()
     ensures { FollowsReferences }
 {}
 
-/// In place of a reference stands the expanded tree of its entry in the node of its kind.
+/// In place of a reference and its handle stands the expanded tree of its entry in the node of its kind.
 pub fn expands_entries()
     ensures { ExpandsEntries }
 {}
 
-/// Where each entry is one node, no reference leads to nothing.
+/// Where each entry is a component's node, no reference leads to nothing.
 pub fn expands_all()
     ensures { ExpandsAll }
 {}

@@ -1,5 +1,5 @@
--- The trees of the types that hold no name, type or expression by value: the name of the node, its parts in the order of
--- the fields, and the tree of both.
+-- The trees of the types that hold no name, type or expression by value: the name of the node, its parts in the order
+-- of the fields, and the tree of both.
 use Rattle.std.specs.Prelude.{ℕ, ℤ, pos}
 use Rattle.std.specs.declared.option.Option.{Option}
 use Rattle.std.specs.declared.option.Option.TheVariants as of_option
@@ -308,10 +308,12 @@ tag_of_unscoped_template_name_handle (of_unscoped_template_name_handle.NonSubsti
 abbrev pub parts_of_unscoped_template_name_handle : UnscopedTemplateNameHandle → Core
 parts_of_unscoped_template_name_handle (of_unscoped_template_name_handle.WellKnown a) = tree_of_well_known_component a
 parts_of_unscoped_template_name_handle (of_unscoped_template_name_handle.BackReference a) = ref Which.N a end
-parts_of_unscoped_template_name_handle (of_unscoped_template_name_handle.NonSubstitution a) = parts_of_non_substitution a
+parts_of_unscoped_template_name_handle (of_unscoped_template_name_handle.NonSubstitution a) =
+    parts_of_non_substitution a
 
 abbrev pub tree_of_unscoped_template_name_handle : UnscopedTemplateNameHandle → Core
-tree_of_unscoped_template_name_handle x = node (tag_of_unscoped_template_name_handle x) (parts_of_unscoped_template_name_handle x) end
+tree_of_unscoped_template_name_handle x = node (tag_of_unscoped_template_name_handle x)
+    (parts_of_unscoped_template_name_handle x) end
 
 abbrev pub tag_of_template_template_param_handle : TemplateTemplateParamHandle → Tag
 tag_of_template_template_param_handle (of_template_template_param_handle.WellKnown _) = Tag.WellKnown
@@ -322,7 +324,8 @@ parts_of_template_template_param_handle (of_template_template_param_handle.WellK
 parts_of_template_template_param_handle (of_template_template_param_handle.BackReference a) = ref Which.N a end
 
 abbrev pub tree_of_template_template_param_handle : TemplateTemplateParamHandle → Core
-tree_of_template_template_param_handle x = node (tag_of_template_template_param_handle x) (parts_of_template_template_param_handle x) end
+tree_of_template_template_param_handle x = node (tag_of_template_template_param_handle x)
+    (parts_of_template_template_param_handle x) end
 
 abbrev pub tag_of_unresolved_type_handle : UnresolvedTypeHandle → Tag
 tag_of_unresolved_type_handle (of_unresolved_type_handle.WellKnown _) = Tag.WellKnown
@@ -340,8 +343,10 @@ tag_of_parametric_builtin_type (of_parametric_builtin_type.FloatN _) = Tag.Param
 tag_of_parametric_builtin_type (of_parametric_builtin_type.FloatNx _) = Tag.ParametricBuiltinTypeFloatNx
 tag_of_parametric_builtin_type (of_parametric_builtin_type.SignedBitInt _) = Tag.ParametricBuiltinTypeSignedBitInt
 tag_of_parametric_builtin_type (of_parametric_builtin_type.UnsignedBitInt _) = Tag.ParametricBuiltinTypeUnsignedBitInt
-tag_of_parametric_builtin_type (of_parametric_builtin_type.SignedBitIntExpression _) = Tag.ParametricBuiltinTypeSignedBitIntExpression
-tag_of_parametric_builtin_type (of_parametric_builtin_type.UnsignedBitIntExpression _) = Tag.ParametricBuiltinTypeUnsignedBitIntExpression
+tag_of_parametric_builtin_type (of_parametric_builtin_type.SignedBitIntExpression _) =
+    Tag.ParametricBuiltinTypeSignedBitIntExpression
+tag_of_parametric_builtin_type (of_parametric_builtin_type.UnsignedBitIntExpression _) =
+    Tag.ParametricBuiltinTypeUnsignedBitIntExpression
 
 abbrev pub parts_of_parametric_builtin_type : ParametricBuiltinType → Core
 parts_of_parametric_builtin_type (of_parametric_builtin_type.FloatN a) = number a end
@@ -411,7 +416,8 @@ tree_of_operator_name x = node (tag_of_operator_name x) (parts_of_operator_name 
 abbrev pub tag_of_ctor_dtor_name : CtorDtorName → Tag
 tag_of_ctor_dtor_name (of_ctor_dtor_name.CompleteConstructor _) = Tag.CtorDtorNameCompleteConstructor
 tag_of_ctor_dtor_name (of_ctor_dtor_name.BaseConstructor _) = Tag.CtorDtorNameBaseConstructor
-tag_of_ctor_dtor_name (of_ctor_dtor_name.CompleteAllocatingConstructor _) = Tag.CtorDtorNameCompleteAllocatingConstructor
+tag_of_ctor_dtor_name (of_ctor_dtor_name.CompleteAllocatingConstructor _) =
+    Tag.CtorDtorNameCompleteAllocatingConstructor
 tag_of_ctor_dtor_name (of_ctor_dtor_name.MaybeInChargeConstructor _) = Tag.CtorDtorNameMaybeInChargeConstructor
 tag_of_ctor_dtor_name of_ctor_dtor_name.DeletingDestructor = Tag.CtorDtorNameDeletingDestructor
 tag_of_ctor_dtor_name of_ctor_dtor_name.CompleteDestructor = Tag.CtorDtorNameCompleteDestructor
@@ -479,7 +485,8 @@ abbrev pub parts_of_unqualified_name : UnqualifiedName → Core
 parts_of_unqualified_name (of_unqualified_name.Operator a b) = tree_of_operator_name a ⊕ (tree_of_abi_tags b)
 parts_of_unqualified_name (of_unqualified_name.CtorDtor a b) = tree_of_ctor_dtor_name a ⊕ (tree_of_abi_tags b)
 parts_of_unqualified_name (of_unqualified_name.Source a b) = tree_of_source_name a ⊕ (tree_of_abi_tags b)
-parts_of_unqualified_name (of_unqualified_name.LocalSourceName a b c) = tree_of_source_name a ⊕ (tree_of_option tree_of_discriminator b ⊕ (tree_of_abi_tags c))
+parts_of_unqualified_name (of_unqualified_name.LocalSourceName a b c) = tree_of_source_name a ⊕
+    (tree_of_option tree_of_discriminator b ⊕ (tree_of_abi_tags c))
 parts_of_unqualified_name (of_unqualified_name.UnnamedType a b) = tree_of_unnamed_type_name a ⊕ (tree_of_abi_tags b)
 parts_of_unqualified_name (of_unqualified_name.ClosureType a b) = tree_of_closure_type_name a ⊕ (tree_of_abi_tags b)
 
@@ -513,10 +520,14 @@ tag_of_nested_name (of_nested_name.UnqualifiedExplicitObject _ _ _) = Tag.Nested
 tag_of_nested_name (of_nested_name.TemplateExplicitObject _ _) = Tag.NestedNameTemplateExplicitObject
 
 abbrev pub parts_of_nested_name : NestedName → Core
-parts_of_nested_name (of_nested_name.Unqualified a b c d) = tree_of_cv_qualifiers a ⊕ (tree_of_option tree_of_ref_qualifier b ⊕ (tree_of_option tree_of_prefix_handle c ⊕ (tree_of_unqualified_name d)))
-parts_of_nested_name (of_nested_name.Template a b c) = tree_of_cv_qualifiers a ⊕ (tree_of_option tree_of_ref_qualifier b ⊕ (tree_of_prefix_handle c))
-parts_of_nested_name (of_nested_name.UnqualifiedExplicitObject a b c) = tree_of_option tree_of_prefix_handle a ⊕ (tree_of_unqualified_name b ⊕ (tree_of_explicit_object_parameter c))
-parts_of_nested_name (of_nested_name.TemplateExplicitObject a b) = tree_of_prefix_handle a ⊕ (tree_of_explicit_object_parameter b)
+parts_of_nested_name (of_nested_name.Unqualified a b c d) = tree_of_cv_qualifiers a ⊕
+    (tree_of_option tree_of_ref_qualifier b ⊕ (tree_of_option tree_of_prefix_handle c ⊕ (tree_of_unqualified_name d)))
+parts_of_nested_name (of_nested_name.Template a b c) = tree_of_cv_qualifiers a ⊕
+    (tree_of_option tree_of_ref_qualifier b ⊕ (tree_of_prefix_handle c))
+parts_of_nested_name (of_nested_name.UnqualifiedExplicitObject a b c) = tree_of_option tree_of_prefix_handle a ⊕
+    (tree_of_unqualified_name b ⊕ (tree_of_explicit_object_parameter c))
+parts_of_nested_name (of_nested_name.TemplateExplicitObject a b) = tree_of_prefix_handle a ⊕
+    (tree_of_explicit_object_parameter b)
 
 abbrev pub tree_of_nested_name : NestedName → Core
 tree_of_nested_name x = node (tag_of_nested_name x) (parts_of_nested_name x) end

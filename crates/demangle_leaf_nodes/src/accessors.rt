@@ -2,7 +2,11 @@
 
 ghost use Rattle.std.specs.Prelude.{◌≡◌, option_map};
 ghost use Rattle.demangle_core.specs.Fields.{explicit_object_of, qualifiers_of, ref_qualifier_of, reference_of};
-ghost use Rattle.demangle_leaf_nodes.specs.TreeLeaves.{tree_of_prefix_handle, tree_of_unscoped_template_name_handle, tree_of_template_template_param_handle, tree_of_unresolved_type_handle, tree_of_type_handle, tree_of_nested_name, tree_of_cv_qualifiers, tree_of_ref_qualifier};
+ghost use Rattle.demangle_leaf_nodes.specs.TreeLeaves.{tree_of_prefix_handle, tree_of_unscoped_template_name_handle};
+ghost use Rattle.demangle_leaf_nodes.specs.TreeLeaves.{tree_of_template_template_param_handle};
+ghost use Rattle.demangle_leaf_nodes.specs.TreeLeaves.{tree_of_unresolved_type_handle, tree_of_type_handle};
+ghost use Rattle.demangle_leaf_nodes.specs.TreeLeaves.{tree_of_nested_name, tree_of_cv_qualifiers};
+ghost use Rattle.demangle_leaf_nodes.specs.TreeLeaves.{tree_of_ref_qualifier};
 
 use crate::leaves::{
     CvQualifiers, NestedName, PrefixHandle, TemplateTemplateParamHandle, TypeHandle,
@@ -11,8 +15,8 @@ use crate::leaves::{
 use demangle_vocab::RefQualifier;
 
 impl PrefixHandle {
-    /// The position of the numbered component that this refers to; `None` exactly where it refers to none. The original's
-    /// method of this name.
+    /// The position of the numbered component that this refers to; `None` exactly where it refers to none. The
+    /// original's method of this name.
     pub fn back_reference(&self) -> Option<usize>
         ensures { result ≡ reference_of (tree_of_prefix_handle self.now) }
     {
@@ -24,8 +28,8 @@ impl PrefixHandle {
 }
 
 impl UnscopedTemplateNameHandle {
-    /// The position of the numbered component that this refers to; `None` exactly where it refers to none. The original's
-    /// method of this name.
+    /// The position of the numbered component that this refers to; `None` exactly where it refers to none. The
+    /// original's method of this name.
     pub fn back_reference(&self) -> Option<usize>
         ensures { result ≡ reference_of (tree_of_unscoped_template_name_handle self.now) }
     {
@@ -37,8 +41,8 @@ impl UnscopedTemplateNameHandle {
 }
 
 impl TemplateTemplateParamHandle {
-    /// The position of the numbered component that this refers to; `None` exactly where it refers to none. The original's
-    /// method of this name.
+    /// The position of the numbered component that this refers to; `None` exactly where it refers to none. The
+    /// original's method of this name.
     pub fn back_reference(&self) -> Option<usize>
         ensures { result ≡ reference_of (tree_of_template_template_param_handle self.now) }
     {
@@ -50,8 +54,8 @@ impl TemplateTemplateParamHandle {
 }
 
 impl UnresolvedTypeHandle {
-    /// The position of the numbered component that this refers to; `None` exactly where it refers to none. The original's
-    /// method of this name.
+    /// The position of the numbered component that this refers to; `None` exactly where it refers to none. The
+    /// original's method of this name.
     pub fn back_reference(&self) -> Option<usize>
         ensures { result ≡ reference_of (tree_of_unresolved_type_handle self.now) }
     {
@@ -63,8 +67,8 @@ impl UnresolvedTypeHandle {
 }
 
 impl TypeHandle {
-    /// The position of the numbered component that this refers to; `None` exactly where it refers to none. The original's
-    /// method of this name.
+    /// The position of the numbered component that this refers to; `None` exactly where it refers to none. The
+    /// original's method of this name.
     pub fn back_reference(&self) -> Option<usize>
         ensures { result ≡ reference_of (tree_of_type_handle self.now) }
     {
@@ -89,7 +93,8 @@ impl NestedName {
 
     /// The ref-qualifier; `None` exactly where there is none. The original's method of this name.
     pub fn ref_qualifier(&self) -> Option<&RefQualifier>
-        ensures { option_map (λ x. tree_of_ref_qualifier x.now) result ≡ ref_qualifier_of (tree_of_nested_name self.now) }
+        ensures { option_map (λ x. tree_of_ref_qualifier x.now) result
+            ≡ ref_qualifier_of (tree_of_nested_name self.now) }
     {
         match self {
             NestedName::Unqualified(_, Some(qualifier), _, _) => Some(qualifier),

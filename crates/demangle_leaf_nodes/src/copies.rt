@@ -46,7 +46,8 @@ impl CloneSuffix {
 
 /// A copy of the suffixes of a clone, equal to them. `OutOfMemory` is its only refusal.
 pub fn clone_suffixes(alloc: Global, items: &[CloneSuffix]) -> Result<Vec<CloneSuffix>>
-    ensures same_trees { IfOk result (λ r. trees tag_of_clone_suffix parts_of_clone_suffix r.items ≡ trees tag_of_clone_suffix parts_of_clone_suffix items.now) }
+    ensures same_trees { IfOk result (λ r. trees tag_of_clone_suffix parts_of_clone_suffix r.items
+        ≡ trees tag_of_clone_suffix parts_of_clone_suffix items.now) }
     ensures refused { IfErr result (λ e. e ≡ OutOfMemory) }
 {
     let mut copy = Vec::with_capacity(alloc, items.len())?;

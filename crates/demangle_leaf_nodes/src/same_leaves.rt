@@ -3,7 +3,21 @@
 ghost use Rattle.std.specs.Cmp.{on_per, on_equiv, partial_equiv_from_equiv};
 ghost use Rattle.demangle_core.specs.Core.{same};
 ghost use Rattle.demangle_core.specs.Same.{same_equiv};
-ghost use Rattle.demangle_leaf_nodes.specs.TreeLeaves.{tree_of_non_substitution, tree_of_seq_id, tree_of_template_param, tree_of_discriminator, tree_of_identifier, tree_of_clone_type_identifier, tree_of_resource_name, tree_of_source_name, tree_of_abi_tag, tree_of_abi_tags, tree_of_data_member_prefix, tree_of_clone_suffix, tree_of_cv_qualifiers, tree_of_nv_offset, tree_of_v_offset, tree_of_call_offset, tree_of_function_param, tree_of_template_template_param, tree_of_unnamed_type_name, tree_of_substitution, tree_of_prefix_handle, tree_of_unscoped_template_name_handle, tree_of_template_template_param_handle, tree_of_unresolved_type_handle, tree_of_type_handle, tree_of_builtin_type, tree_of_qualified_builtin, tree_of_parametric_builtin_type, tree_of_operator_name, tree_of_ctor_dtor_name};
+ghost use Rattle.demangle_leaf_nodes.specs.TreeLeaves.{tree_of_non_substitution, tree_of_seq_id};
+ghost use Rattle.demangle_leaf_nodes.specs.TreeLeaves.{tree_of_template_param, tree_of_discriminator};
+ghost use Rattle.demangle_leaf_nodes.specs.TreeLeaves.{tree_of_identifier, tree_of_clone_type_identifier};
+ghost use Rattle.demangle_leaf_nodes.specs.TreeLeaves.{tree_of_resource_name, tree_of_source_name, tree_of_abi_tag};
+ghost use Rattle.demangle_leaf_nodes.specs.TreeLeaves.{tree_of_abi_tags, tree_of_data_member_prefix};
+ghost use Rattle.demangle_leaf_nodes.specs.TreeLeaves.{tree_of_clone_suffix, tree_of_cv_qualifiers, tree_of_nv_offset};
+ghost use Rattle.demangle_leaf_nodes.specs.TreeLeaves.{tree_of_v_offset, tree_of_call_offset, tree_of_function_param};
+ghost use Rattle.demangle_leaf_nodes.specs.TreeLeaves.{tree_of_template_template_param, tree_of_unnamed_type_name};
+ghost use Rattle.demangle_leaf_nodes.specs.TreeLeaves.{tree_of_substitution, tree_of_prefix_handle};
+ghost use Rattle.demangle_leaf_nodes.specs.TreeLeaves.{tree_of_unscoped_template_name_handle};
+ghost use Rattle.demangle_leaf_nodes.specs.TreeLeaves.{tree_of_template_template_param_handle};
+ghost use Rattle.demangle_leaf_nodes.specs.TreeLeaves.{tree_of_unresolved_type_handle, tree_of_type_handle};
+ghost use Rattle.demangle_leaf_nodes.specs.TreeLeaves.{tree_of_builtin_type, tree_of_qualified_builtin};
+ghost use Rattle.demangle_leaf_nodes.specs.TreeLeaves.{tree_of_parametric_builtin_type, tree_of_operator_name};
+ghost use Rattle.demangle_leaf_nodes.specs.TreeLeaves.{tree_of_ctor_dtor_name};
 
 use crate::leaves::{
     AbiTag, AbiTags, BuiltinType, CallOffset, CloneSuffix, CloneTypeIdentifier, CtorDtorName,

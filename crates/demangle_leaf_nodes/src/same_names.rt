@@ -4,7 +4,11 @@ ghost use Rattle.std.specs.Prelude.{◌≡◌};
 ghost use Rattle.std.specs.Cmp.{on_per, on_equiv, partial_equiv_from_equiv};
 ghost use Rattle.demangle_core.specs.Core.{same};
 ghost use Rattle.demangle_core.specs.Same.{same_equiv};
-ghost use Rattle.demangle_leaf_nodes.specs.TreeLeaves.{tree_of_option, tree_of_ref_qualifier, tree_of_bare_function_type, tree_of_lambda_sig, tree_of_closure_type_name, tree_of_pointer_to_member_type, tree_of_unqualified_name, tree_of_unscoped_name, tree_of_unscoped_template_name, tree_of_nested_name};
+ghost use Rattle.demangle_leaf_nodes.specs.TreeLeaves.{tree_of_option, tree_of_ref_qualifier};
+ghost use Rattle.demangle_leaf_nodes.specs.TreeLeaves.{tree_of_bare_function_type, tree_of_lambda_sig};
+ghost use Rattle.demangle_leaf_nodes.specs.TreeLeaves.{tree_of_closure_type_name, tree_of_pointer_to_member_type};
+ghost use Rattle.demangle_leaf_nodes.specs.TreeLeaves.{tree_of_unqualified_name, tree_of_unscoped_name};
+ghost use Rattle.demangle_leaf_nodes.specs.TreeLeaves.{tree_of_unscoped_template_name, tree_of_nested_name};
 
 use crate::leaves::{
     BareFunctionType, ClosureTypeName, LambdaSig, NestedName, PointerToMemberType, UnqualifiedName,
@@ -193,11 +197,12 @@ impl Eq for NestedName {
     ghost laws = { on_equiv tree_of_nested_name same_equiv };
 }
 
-/// Whether two fields hold the same ref-qualifier, or both none: equality of their trees, which the node types above need
-/// too.
+/// Whether two fields hold the same ref-qualifier, or both none: equality of their trees, which the node types above
+/// need too.
 #[tactic(auto, using(crate::proofs::Same::rows))]
 pub fn same_ref_qualifier(one: &Option<RefQualifier>, other: &Option<RefQualifier>) -> bool
-    ensures { result ≡ same (tree_of_option tree_of_ref_qualifier one.now) (tree_of_option tree_of_ref_qualifier other.now) }
+    ensures { result ≡ same (tree_of_option tree_of_ref_qualifier one.now)
+        (tree_of_option tree_of_ref_qualifier other.now) }
 {
     match one {
         Some(a) => match other {

@@ -232,7 +232,8 @@ pub fn clone_unresolved_qualifier_level(
     alloc: Global,
     node: &UnresolvedQualifierLevel,
 ) -> Result<UnresolvedQualifierLevel, AllocError>
-    ensures same_parts { IfOk result (λ r. parts_of_unresolved_qualifier_level r ≡ parts_of_unresolved_qualifier_level node.now) }
+    ensures same_parts { IfOk result (λ r. parts_of_unresolved_qualifier_level r
+        ≡ parts_of_unresolved_qualifier_level node.now) }
 {
     Ok(UnresolvedQualifierLevel(clone_simple_id(alloc, &node.0)?))
 }
@@ -613,7 +614,8 @@ fn clone_template_arg_list(
     alloc: Global,
     items: &[TemplateArg],
 ) -> Result<Vec<TemplateArg>, AllocError>
-    ensures same_trees { IfOk result (λ r. trees tag_of_template_arg parts_of_template_arg r.items ≡ trees tag_of_template_arg parts_of_template_arg items.now) }
+    ensures same_trees { IfOk result (λ r. trees tag_of_template_arg parts_of_template_arg r.items
+        ≡ trees tag_of_template_arg parts_of_template_arg items.now) }
 {
     let mut copy = Vec::with_capacity(alloc, items.len())?;
     for item in items {
@@ -624,7 +626,8 @@ fn clone_template_arg_list(
 
 #[cycle(clone)]
 fn clone_expression_list(alloc: Global, items: &[Expression]) -> Result<Vec<Expression>, AllocError>
-    ensures same_trees { IfOk result (λ r. trees tag_of_expression parts_of_expression r.items ≡ trees tag_of_expression parts_of_expression items.now) }
+    ensures same_trees { IfOk result (λ r. trees tag_of_expression parts_of_expression r.items
+        ≡ trees tag_of_expression parts_of_expression items.now) }
 {
     let mut copy = Vec::with_capacity(alloc, items.len())?;
     for item in items {
@@ -638,7 +641,8 @@ fn clone_level_list(
     alloc: Global,
     items: &[UnresolvedQualifierLevel],
 ) -> Result<Vec<UnresolvedQualifierLevel>, AllocError>
-    ensures same_trees { IfOk result (λ r. trees tag_of_unresolved_qualifier_level parts_of_unresolved_qualifier_level r.items ≡ trees tag_of_unresolved_qualifier_level parts_of_unresolved_qualifier_level items.now) }
+    ensures same_trees { IfOk result (λ r. trees tag_of_unresolved_qualifier_level parts_of_unresolved_qualifier_level
+        r.items ≡ trees tag_of_unresolved_qualifier_level parts_of_unresolved_qualifier_level items.now) }
 {
     let mut copy = Vec::with_capacity(alloc, items.len())?;
     for item in items {
@@ -654,7 +658,8 @@ pub fn clone_optional_template_args(
     node: &Option<TemplateArgs>,
 ) -> Result<Option<TemplateArgs>, AllocError>
     ensures same_tag { IfOk result (λ r. tag_of_option r ≡ tag_of_option node.now) }
-    ensures same_parts { IfOk result (λ r. parts_of_option tree_of_template_args r ≡ parts_of_option tree_of_template_args node.now) }
+    ensures same_parts { IfOk result (λ r. parts_of_option tree_of_template_args r
+        ≡ parts_of_option tree_of_template_args node.now) }
 {
     match node {
         None => Ok(None),
@@ -668,7 +673,8 @@ fn clone_optional_initializer(
     node: &Option<Initializer>,
 ) -> Result<Option<Initializer>, AllocError>
     ensures same_tag { IfOk result (λ r. tag_of_option r ≡ tag_of_option node.now) }
-    ensures same_parts { IfOk result (λ r. parts_of_option tree_of_initializer r ≡ parts_of_option tree_of_initializer node.now) }
+    ensures same_parts { IfOk result (λ r. parts_of_option tree_of_initializer r
+        ≡ parts_of_option tree_of_initializer node.now) }
 {
     match node {
         None => Ok(None),
@@ -690,8 +696,8 @@ fn clone_optional_name(
     }
 }
 
-// What is dropped where memory is wanting is dropped here, so that in the cycle only the copies of lists have a copy half
-// made to drop.
+// What is dropped where memory is wanting is dropped here, so that in the cycle only the copies of lists have a copy
+// half made to drop.
 fn boxed<A: Drop>(alloc: Global, value: Result<A, AllocError>) -> Result<Box<A>, AllocError>
     ensures inside { IfOk result (λ r. value ≡ Ok r.value) }
 {

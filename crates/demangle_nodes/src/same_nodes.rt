@@ -3,7 +3,13 @@
 ghost use Rattle.std.specs.Cmp.{on_per, on_equiv, partial_equiv_from_equiv};
 ghost use Rattle.demangle_core.specs.Core.{same};
 ghost use Rattle.demangle_core.specs.Same.{same_equiv};
-ghost use Rattle.demangle_nodes.specs.TreeNodes.{tree_of_mangled_name, tree_of_encoding, tree_of_global_ctor_dtor, tree_of_name, tree_of_template_args, tree_of_template_arg, tree_of_member_name, tree_of_initializer, tree_of_expression, tree_of_unresolved_name, tree_of_unresolved_qualifier_level, tree_of_simple_id, tree_of_base_unresolved_name, tree_of_destructor_name, tree_of_expr_primary, tree_of_local_name, tree_of_special_name, tree_of_subobject_expr, tree_of_fold_expr};
+ghost use Rattle.demangle_nodes.specs.TreeNodes.{tree_of_mangled_name, tree_of_encoding, tree_of_global_ctor_dtor};
+ghost use Rattle.demangle_nodes.specs.TreeNodes.{tree_of_name, tree_of_template_args, tree_of_template_arg};
+ghost use Rattle.demangle_nodes.specs.TreeNodes.{tree_of_member_name, tree_of_initializer, tree_of_expression};
+ghost use Rattle.demangle_nodes.specs.TreeNodes.{tree_of_unresolved_name, tree_of_unresolved_qualifier_level};
+ghost use Rattle.demangle_nodes.specs.TreeNodes.{tree_of_simple_id, tree_of_base_unresolved_name};
+ghost use Rattle.demangle_nodes.specs.TreeNodes.{tree_of_destructor_name, tree_of_expr_primary, tree_of_local_name};
+ghost use Rattle.demangle_nodes.specs.TreeNodes.{tree_of_special_name, tree_of_subobject_expr, tree_of_fold_expr};
 
 use crate::nodes::{
     BaseUnresolvedName, DestructorName, Encoding, ExprPrimary, Expression, FoldExpr,

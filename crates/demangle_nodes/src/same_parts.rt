@@ -3,8 +3,23 @@
 ghost use Rattle.std.specs.Prelude.{◌≡◌, pos};
 ghost use Rattle.std.specs.Ordering.{int_eq};
 ghost use Rattle.demangle_core.specs.Core.{same, alike, trees};
-ghost use Rattle.demangle_leaf_nodes.specs.TreeLeaves.{parts_of_clone_suffix, parts_of_option, parts_of_resource_name, tag_of_clone_suffix, tag_of_option, tag_of_resource_name, tree_of_discriminator, tree_of_option, tree_of_signed};
-ghost use Rattle.demangle_nodes.specs.TreeNodes.{boxed_name, parts_of_base_unresolved_name, parts_of_destructor_name, parts_of_encoding, parts_of_expr_primary, parts_of_expression, parts_of_fold_expr, parts_of_global_ctor_dtor, parts_of_initializer, parts_of_local_name, parts_of_mangled_name, parts_of_member_name, parts_of_name, parts_of_simple_id, parts_of_special_name, parts_of_subobject_expr, parts_of_template_arg, parts_of_template_args, parts_of_unresolved_name, parts_of_unresolved_qualifier_level, tag_of_base_unresolved_name, tag_of_destructor_name, tag_of_encoding, tag_of_expr_primary, tag_of_expression, tag_of_fold_expr, tag_of_global_ctor_dtor, tag_of_local_name, tag_of_mangled_name, tag_of_name, tag_of_special_name, tag_of_template_arg, tag_of_unresolved_name, tag_of_unresolved_qualifier_level, tree_of_initializer, tree_of_template_args};
+ghost use Rattle.demangle_leaf_nodes.specs.TreeLeaves.{parts_of_clone_suffix, parts_of_option, parts_of_resource_name};
+ghost use Rattle.demangle_leaf_nodes.specs.TreeLeaves.{tag_of_clone_suffix, tag_of_option, tag_of_resource_name};
+ghost use Rattle.demangle_leaf_nodes.specs.TreeLeaves.{tree_of_discriminator, tree_of_option, tree_of_signed};
+ghost use Rattle.demangle_nodes.specs.TreeNodes.{boxed_name, parts_of_base_unresolved_name, parts_of_destructor_name};
+ghost use Rattle.demangle_nodes.specs.TreeNodes.{parts_of_encoding, parts_of_expr_primary, parts_of_expression};
+ghost use Rattle.demangle_nodes.specs.TreeNodes.{parts_of_fold_expr, parts_of_global_ctor_dtor, parts_of_initializer};
+ghost use Rattle.demangle_nodes.specs.TreeNodes.{parts_of_local_name, parts_of_mangled_name, parts_of_member_name};
+ghost use Rattle.demangle_nodes.specs.TreeNodes.{parts_of_name, parts_of_simple_id, parts_of_special_name};
+ghost use Rattle.demangle_nodes.specs.TreeNodes.{parts_of_subobject_expr, parts_of_template_arg};
+ghost use Rattle.demangle_nodes.specs.TreeNodes.{parts_of_template_args, parts_of_unresolved_name};
+ghost use Rattle.demangle_nodes.specs.TreeNodes.{parts_of_unresolved_qualifier_level, tag_of_base_unresolved_name};
+ghost use Rattle.demangle_nodes.specs.TreeNodes.{tag_of_destructor_name, tag_of_encoding, tag_of_expr_primary};
+ghost use Rattle.demangle_nodes.specs.TreeNodes.{tag_of_expression, tag_of_fold_expr, tag_of_global_ctor_dtor};
+ghost use Rattle.demangle_nodes.specs.TreeNodes.{tag_of_local_name, tag_of_mangled_name, tag_of_name};
+ghost use Rattle.demangle_nodes.specs.TreeNodes.{tag_of_special_name, tag_of_template_arg, tag_of_unresolved_name};
+ghost use Rattle.demangle_nodes.specs.TreeNodes.{tag_of_unresolved_qualifier_level, tree_of_initializer};
+ghost use Rattle.demangle_nodes.specs.TreeNodes.{tree_of_template_args};
 
 use crate::nodes::{
     BaseUnresolvedName, DestructorName, Encoding, ExprPrimary, Expression, FoldExpr,
@@ -16,7 +31,8 @@ use demangle_leaf_nodes::{CloneSuffix, Discriminator, ResourceName};
 #[cycle(same)]
 #[tactic(auto, using(crate::proofs::Parts::parts_mangled_name, demangle_leaf_nodes::proofs::Same::and_true))]
 pub(crate) fn same_mangled_name(x: &MangledName, y: &MangledName) -> bool
-    ensures { result ≡ alike (tag_of_mangled_name x.now) (tag_of_mangled_name y.now) (same (parts_of_mangled_name x.now) (parts_of_mangled_name y.now)) }
+    ensures { result ≡ alike (tag_of_mangled_name x.now) (tag_of_mangled_name y.now) (same
+        (parts_of_mangled_name x.now) (parts_of_mangled_name y.now)) }
 {
     match x {
         MangledName::Encoding(a, b) => match y {
@@ -43,7 +59,8 @@ pub(crate) fn same_mangled_name(x: &MangledName, y: &MangledName) -> bool
 #[cycle(same)]
 #[tactic(auto, using(crate::proofs::Parts::parts_encoding, demangle_leaf_nodes::proofs::Same::and_true))]
 pub(crate) fn same_encoding(x: &Encoding, y: &Encoding) -> bool
-    ensures { result ≡ alike (tag_of_encoding x.now) (tag_of_encoding y.now) (same (parts_of_encoding x.now) (parts_of_encoding y.now)) }
+    ensures { result ≡ alike (tag_of_encoding x.now) (tag_of_encoding y.now) (same (parts_of_encoding x.now)
+        (parts_of_encoding y.now)) }
 {
     match x {
         Encoding::Function(a, b) => match y {
@@ -64,7 +81,8 @@ pub(crate) fn same_encoding(x: &Encoding, y: &Encoding) -> bool
 #[cycle(same)]
 #[tactic(auto, using(crate::proofs::Parts::parts_global_ctor_dtor, demangle_leaf_nodes::proofs::Same::and_true))]
 pub(crate) fn same_global_ctor_dtor(x: &GlobalCtorDtor, y: &GlobalCtorDtor) -> bool
-    ensures { result ≡ alike (tag_of_global_ctor_dtor x.now) (tag_of_global_ctor_dtor y.now) (same (parts_of_global_ctor_dtor x.now) (parts_of_global_ctor_dtor y.now)) }
+    ensures { result ≡ alike (tag_of_global_ctor_dtor x.now) (tag_of_global_ctor_dtor y.now) (same
+        (parts_of_global_ctor_dtor x.now) (parts_of_global_ctor_dtor y.now)) }
 {
     match x {
         GlobalCtorDtor::Ctor(a) => match y {
@@ -81,7 +99,8 @@ pub(crate) fn same_global_ctor_dtor(x: &GlobalCtorDtor, y: &GlobalCtorDtor) -> b
 #[cycle(same)]
 #[tactic(auto, using(crate::proofs::Parts::parts_name, demangle_leaf_nodes::proofs::Same::and_true))]
 pub(crate) fn same_name(x: &Name, y: &Name) -> bool
-    ensures { result ≡ alike (tag_of_name x.now) (tag_of_name y.now) (same (parts_of_name x.now) (parts_of_name y.now)) }
+    ensures { result ≡ alike (tag_of_name x.now) (tag_of_name y.now) (same (parts_of_name x.now)
+        (parts_of_name y.now)) }
 {
     match x {
         Name::Nested(a) => match y {
@@ -115,7 +134,8 @@ pub(crate) fn same_template_args(x: &TemplateArgs, y: &TemplateArgs) -> bool
 #[cycle(same)]
 #[tactic(auto, using(crate::proofs::Parts::parts_template_arg, demangle_leaf_nodes::proofs::Same::and_true))]
 pub(crate) fn same_template_arg(x: &TemplateArg, y: &TemplateArg) -> bool
-    ensures { result ≡ alike (tag_of_template_arg x.now) (tag_of_template_arg y.now) (same (parts_of_template_arg x.now) (parts_of_template_arg y.now)) }
+    ensures { result ≡ alike (tag_of_template_arg x.now) (tag_of_template_arg y.now) (same
+        (parts_of_template_arg x.now) (parts_of_template_arg y.now)) }
 {
     match x {
         TemplateArg::TypeArg(a) => match y {
@@ -156,7 +176,8 @@ pub(crate) fn same_initializer(x: &Initializer, y: &Initializer) -> bool
 #[cycle(same)]
 #[tactic(auto, using(crate::proofs::Parts::parts_expression, demangle_leaf_nodes::proofs::Same::and_true))]
 pub(crate) fn same_expression(x: &Expression, y: &Expression) -> bool
-    ensures { result ≡ alike (tag_of_expression x.now) (tag_of_expression y.now) (same (parts_of_expression x.now) (parts_of_expression y.now)) }
+    ensures { result ≡ alike (tag_of_expression x.now) (tag_of_expression y.now) (same (parts_of_expression x.now)
+        (parts_of_expression y.now)) }
 {
     match x {
         Expression::Unary(a, b) => match y {
@@ -357,7 +378,8 @@ pub(crate) fn same_expression(x: &Expression, y: &Expression) -> bool
 #[cycle(same)]
 #[tactic(auto, using(crate::proofs::Parts::parts_unresolved_name, demangle_leaf_nodes::proofs::Same::and_true))]
 pub(crate) fn same_unresolved_name(x: &UnresolvedName, y: &UnresolvedName) -> bool
-    ensures { result ≡ alike (tag_of_unresolved_name x.now) (tag_of_unresolved_name y.now) (same (parts_of_unresolved_name x.now) (parts_of_unresolved_name y.now)) }
+    ensures { result ≡ alike (tag_of_unresolved_name x.now) (tag_of_unresolved_name y.now) (same
+        (parts_of_unresolved_name x.now) (parts_of_unresolved_name y.now)) }
 {
     match x {
         UnresolvedName::Name(a) => match y {
@@ -408,7 +430,8 @@ pub(crate) fn same_simple_id(x: &SimpleId, y: &SimpleId) -> bool
 #[cycle(same)]
 #[tactic(auto, using(crate::proofs::Parts::parts_base_unresolved_name, demangle_leaf_nodes::proofs::Same::and_true))]
 pub(crate) fn same_base_unresolved_name(x: &BaseUnresolvedName, y: &BaseUnresolvedName) -> bool
-    ensures { result ≡ alike (tag_of_base_unresolved_name x.now) (tag_of_base_unresolved_name y.now) (same (parts_of_base_unresolved_name x.now) (parts_of_base_unresolved_name y.now)) }
+    ensures { result ≡ alike (tag_of_base_unresolved_name x.now) (tag_of_base_unresolved_name y.now) (same
+        (parts_of_base_unresolved_name x.now) (parts_of_base_unresolved_name y.now)) }
 {
     match x {
         BaseUnresolvedName::Name(a) => match y {
@@ -430,7 +453,8 @@ pub(crate) fn same_base_unresolved_name(x: &BaseUnresolvedName, y: &BaseUnresolv
 #[cycle(same)]
 #[tactic(auto, using(crate::proofs::Parts::parts_destructor_name, demangle_leaf_nodes::proofs::Same::and_true))]
 pub(crate) fn same_destructor_name(x: &DestructorName, y: &DestructorName) -> bool
-    ensures { result ≡ alike (tag_of_destructor_name x.now) (tag_of_destructor_name y.now) (same (parts_of_destructor_name x.now) (parts_of_destructor_name y.now)) }
+    ensures { result ≡ alike (tag_of_destructor_name x.now) (tag_of_destructor_name y.now) (same
+        (parts_of_destructor_name x.now) (parts_of_destructor_name y.now)) }
 {
     match x {
         DestructorName::Unresolved(a) => match y {
@@ -447,7 +471,8 @@ pub(crate) fn same_destructor_name(x: &DestructorName, y: &DestructorName) -> bo
 #[cycle(same)]
 #[tactic(auto, using(crate::proofs::Parts::parts_expr_primary, demangle_leaf_nodes::proofs::Same::and_true))]
 pub(crate) fn same_expr_primary(x: &ExprPrimary, y: &ExprPrimary) -> bool
-    ensures { result ≡ alike (tag_of_expr_primary x.now) (tag_of_expr_primary y.now) (same (parts_of_expr_primary x.now) (parts_of_expr_primary y.now)) }
+    ensures { result ≡ alike (tag_of_expr_primary x.now) (tag_of_expr_primary y.now) (same
+        (parts_of_expr_primary x.now) (parts_of_expr_primary y.now)) }
 {
     match x {
         ExprPrimary::Literal(a, b, c) => match y {
@@ -465,7 +490,8 @@ pub(crate) fn same_expr_primary(x: &ExprPrimary, y: &ExprPrimary) -> bool
 #[cycle(same)]
 #[tactic(auto, using(crate::proofs::Parts::parts_local_name, demangle_leaf_nodes::proofs::Same::and_true))]
 pub(crate) fn same_local_name(x: &LocalName, y: &LocalName) -> bool
-    ensures { result ≡ alike (tag_of_local_name x.now) (tag_of_local_name y.now) (same (parts_of_local_name x.now) (parts_of_local_name y.now)) }
+    ensures { result ≡ alike (tag_of_local_name x.now) (tag_of_local_name y.now) (same (parts_of_local_name x.now)
+        (parts_of_local_name y.now)) }
 {
     match x {
         LocalName::Relative(a, b, c) => match y {
@@ -484,7 +510,8 @@ pub(crate) fn same_local_name(x: &LocalName, y: &LocalName) -> bool
 #[cycle(same)]
 #[tactic(auto, using(crate::proofs::Parts::parts_special_name, demangle_leaf_nodes::proofs::Same::and_true))]
 pub(crate) fn same_special_name(x: &SpecialName, y: &SpecialName) -> bool
-    ensures { result ≡ alike (tag_of_special_name x.now) (tag_of_special_name y.now) (same (parts_of_special_name x.now) (parts_of_special_name y.now)) }
+    ensures { result ≡ alike (tag_of_special_name x.now) (tag_of_special_name y.now) (same
+        (parts_of_special_name x.now) (parts_of_special_name y.now)) }
 {
     match x {
         SpecialName::VirtualTable(a) => match y {
@@ -564,7 +591,8 @@ pub(crate) fn same_subobject_expr(x: &SubobjectExpr, y: &SubobjectExpr) -> bool
 #[cycle(same)]
 #[tactic(auto, using(crate::proofs::Parts::parts_fold_expr, demangle_leaf_nodes::proofs::Same::and_true))]
 pub(crate) fn same_fold_expr(x: &FoldExpr, y: &FoldExpr) -> bool
-    ensures { result ≡ alike (tag_of_fold_expr x.now) (tag_of_fold_expr y.now) (same (parts_of_fold_expr x.now) (parts_of_fold_expr y.now)) }
+    ensures { result ≡ alike (tag_of_fold_expr x.now) (tag_of_fold_expr y.now) (same (parts_of_fold_expr x.now)
+        (parts_of_fold_expr y.now)) }
 {
     match x {
         FoldExpr::UnaryLeft(a, b) => match y {
@@ -593,7 +621,8 @@ pub(crate) fn same_fold_expr(x: &FoldExpr, y: &FoldExpr) -> bool
 #[cycle(same)]
 #[tactic(auto, using(demangle_leaf_nodes::proofs::Same::lengths_differ, demangle_leaf_nodes::proofs::Same::and_true))]
 fn same_expressions(xs: &[Expression], ys: &[Expression]) -> bool
-    ensures { result ≡ same (trees tag_of_expression parts_of_expression xs.now) (trees tag_of_expression parts_of_expression ys.now) }
+    ensures { result ≡ same (trees tag_of_expression parts_of_expression xs.now)
+        (trees tag_of_expression parts_of_expression ys.now) }
 {
     if xs.len() != ys.len() {
         return false;
@@ -609,7 +638,8 @@ fn same_expressions(xs: &[Expression], ys: &[Expression]) -> bool
 #[cycle(same)]
 #[tactic(auto, using(demangle_leaf_nodes::proofs::Same::lengths_differ, demangle_leaf_nodes::proofs::Same::and_true))]
 fn same_argument_list(xs: &[TemplateArg], ys: &[TemplateArg]) -> bool
-    ensures { result ≡ same (trees tag_of_template_arg parts_of_template_arg xs.now) (trees tag_of_template_arg parts_of_template_arg ys.now) }
+    ensures { result ≡ same (trees tag_of_template_arg parts_of_template_arg xs.now)
+        (trees tag_of_template_arg parts_of_template_arg ys.now) }
 {
     if xs.len() != ys.len() {
         return false;
@@ -625,7 +655,8 @@ fn same_argument_list(xs: &[TemplateArg], ys: &[TemplateArg]) -> bool
 #[cycle(same)]
 #[tactic(auto, using(demangle_leaf_nodes::proofs::Same::lengths_differ, demangle_leaf_nodes::proofs::Same::and_true))]
 fn same_qualifier_levels(xs: &[UnresolvedQualifierLevel], ys: &[UnresolvedQualifierLevel]) -> bool
-    ensures { result ≡ same (trees tag_of_unresolved_qualifier_level parts_of_unresolved_qualifier_level xs.now) (trees tag_of_unresolved_qualifier_level parts_of_unresolved_qualifier_level ys.now) }
+    ensures { result ≡ same (trees tag_of_unresolved_qualifier_level parts_of_unresolved_qualifier_level xs.now)
+        (trees tag_of_unresolved_qualifier_level parts_of_unresolved_qualifier_level ys.now) }
 {
     if xs.len() != ys.len() {
         return false;
@@ -641,7 +672,8 @@ fn same_qualifier_levels(xs: &[UnresolvedQualifierLevel], ys: &[UnresolvedQualif
 #[cycle(same)]
 #[tactic(auto, using(demangle_leaf_nodes::proofs::Same::and_true))]
 fn same_optional_name(x: &Option<Box<Name>>, y: &Option<Box<Name>>) -> bool
-    ensures { result ≡ alike (tag_of_option x.now) (tag_of_option y.now) (same (parts_of_option boxed_name x.now) (parts_of_option boxed_name y.now)) }
+    ensures { result ≡ alike (tag_of_option x.now) (tag_of_option y.now) (same (parts_of_option boxed_name x.now)
+        (parts_of_option boxed_name y.now)) }
 {
     match x {
         Some(a) => match y {
@@ -655,7 +687,8 @@ fn same_optional_name(x: &Option<Box<Name>>, y: &Option<Box<Name>>) -> bool
 #[cycle(same)]
 #[tactic(auto, using(demangle_leaf_nodes::proofs::Same::and_true))]
 fn same_optional_template_args(x: &Option<TemplateArgs>, y: &Option<TemplateArgs>) -> bool
-    ensures { result ≡ alike (tag_of_option x.now) (tag_of_option y.now) (same (parts_of_option tree_of_template_args x.now) (parts_of_option tree_of_template_args y.now)) }
+    ensures { result ≡ alike (tag_of_option x.now) (tag_of_option y.now) (same
+        (parts_of_option tree_of_template_args x.now) (parts_of_option tree_of_template_args y.now)) }
 {
     match x {
         Some(a) => match y {
@@ -669,7 +702,8 @@ fn same_optional_template_args(x: &Option<TemplateArgs>, y: &Option<TemplateArgs
 #[cycle(same)]
 #[tactic(auto, using(demangle_leaf_nodes::proofs::Same::and_true))]
 fn same_optional_initializer(x: &Option<Initializer>, y: &Option<Initializer>) -> bool
-    ensures { result ≡ alike (tag_of_option x.now) (tag_of_option y.now) (same (parts_of_option tree_of_initializer x.now) (parts_of_option tree_of_initializer y.now)) }
+    ensures { result ≡ alike (tag_of_option x.now) (tag_of_option y.now) (same
+        (parts_of_option tree_of_initializer x.now) (parts_of_option tree_of_initializer y.now)) }
 {
     match x {
         Some(a) => match y {
@@ -682,7 +716,8 @@ fn same_optional_initializer(x: &Option<Initializer>, y: &Option<Initializer>) -
 
 #[tactic(auto, using(demangle_leaf_nodes::proofs::Same::and_true))]
 fn same_optional_isize(x: &Option<isize>, y: &Option<isize>) -> bool
-    ensures { result ≡ alike (tag_of_option x.now) (tag_of_option y.now) (same (parts_of_option tree_of_signed x.now) (parts_of_option tree_of_signed y.now)) }
+    ensures { result ≡ alike (tag_of_option x.now) (tag_of_option y.now) (same (parts_of_option tree_of_signed x.now)
+        (parts_of_option tree_of_signed y.now)) }
 {
     match x {
         Some(a) => match y {
@@ -709,13 +744,15 @@ fn same_usize(x: &usize, y: &usize) -> bool
 }
 
 fn same_clone_suffixes(xs: &[CloneSuffix], ys: &[CloneSuffix]) -> bool
-    ensures { result ≡ same (trees tag_of_clone_suffix parts_of_clone_suffix xs.now) (trees tag_of_clone_suffix parts_of_clone_suffix ys.now) }
+    ensures { result ≡ same (trees tag_of_clone_suffix parts_of_clone_suffix xs.now)
+        (trees tag_of_clone_suffix parts_of_clone_suffix ys.now) }
 {
     xs == ys
 }
 
 fn same_resource_names(xs: &[ResourceName], ys: &[ResourceName]) -> bool
-    ensures { result ≡ same (trees tag_of_resource_name parts_of_resource_name xs.now) (trees tag_of_resource_name parts_of_resource_name ys.now) }
+    ensures { result ≡ same (trees tag_of_resource_name parts_of_resource_name xs.now)
+        (trees tag_of_resource_name parts_of_resource_name ys.now) }
 {
     xs == ys
 }

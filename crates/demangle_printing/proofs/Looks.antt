@@ -10,7 +10,7 @@ use Rattle.demangle_core.specs.Lookups.{Next, answer, nothing, at, through, firs
 use Rattle.demangle_core.specs.Lookups.{args_node, Sort, args_component, special_node, steps_of, no_word, leaf_step}
 use Rattle.demangle_core.specs.Lookups.{args_step, component_args, special_step, step_from, answer_of, resolve}
 use Rattle.demangle_core.specs.Lookups.{leaf_name, template_args, is_special}
-use Rattle.demangle_grammar.specs.Sound.{is_substitutable, EachEntry}
+use Rattle.demangle_grammar.specs.Sound.{is_substitutable, handle_of, HasHandles, IsComponent, EachEntry}
 use Rattle.demangle_grammar.specs.Expand.{Expanded, in_place, expand_with, expand_upto, expand}
 use Rattle.demangle_grammar.specs.Expand as expanded
 use Rattle.demangle_grammar.proofs.Expands.{Found, found}
@@ -22,7 +22,7 @@ use Rattle.demangle_printing.specs.Trees as tree
 use Rattle.demangle_printing.specs.State.{Event, Fault, Answer, yes, no}
 use Rattle.demangle_printing.specs.Act.{line}
 use Rattle.demangle_printing.specs.Outcome.{first_state, printed, text_of, Outcome, Shown, NotPrinted, outcome_of}
-use Rattle.demangle_printing.specs.Laws.{is_param, holds_param, told, InHandles, HoldsComponent, IsShared}
+use Rattle.demangle_printing.specs.Laws.{is_param, holds_param, told}
 use Rattle.demangle_printing.specs.Laws.{SharingIsInvisible, EqualPrintsEqual}
 use Rattle.demangle_printing.proofs.Alike.{OptionR, ListR, SeenR, AnswerR}
 use Rattle.demangle_printing.proofs.AlikeParts.{Worlds}
@@ -79,17 +79,22 @@ ShapedBy B (chosen t k n) = ShapedBy B n
 ShapedBy B (ref w k n) = B w k × ShapedBy B n
 ShapedBy B (mark i n) = ShapedBy B n
 
+-- a handle may refer
+pub refer_of : (w : Which) (t : Tag) → t ≡ handle_of w → may_refer t ≡ true
+refer_of N t e = ap may_refer e
+refer_of U t e = ap may_refer e
+
 pub shaped_row : (B : Which → ℕ → Type 0) (e : List Entry) → ((w : Which) (k : ℕ) → k < count w e → B w k) →
     (c : Core) → RefersTo e c
-    → InHandles c → ShapedBy B c
+    → HasHandles c → ShapedBy B c
 shaped_row B e f end r h = tt
-shaped_row B e f (node t (ref w k m) n) r h = (h.0, f w k r.0.0, shaped_row B e f n r.1 h.1)
+shaped_row B e f (node t (ref w k m) n) r h = (refer_of w t h.0, f w k r.0.0, shaped_row B e f n r.1 h.2)
 shaped_row B e f (node t c n) r h = (h.0, shaped_row B e f c r.0 h.1, shaped_row B e f n r.1 h.2)
 shaped_row B e f (place i j n) r h = shaped_row B e f n r h
 shaped_row B e f (number v n) r h = shaped_row B e f n r h
 shaped_row B e f (flag b n) r h = shaped_row B e f n r h
 shaped_row B e f (chosen t k n) r h = shaped_row B e f n r h
-shaped_row B e f (ref w k n) r h = (f w k r.0, shaped_row B e f n r.1 h)
+shaped_row B e f (ref w k n) r h = absurd h
 shaped_row B e f (mark i n) r h = shaped_row B e f n r h
 
 pub or_three : (a b c : Bool) → a ≡ false → b ≡ false → c ≡ false → (a || (b || c)) ≡ false
@@ -108,15 +113,15 @@ module _ (table : Table) (input : List ℕ) where
   none_refers (x ∷ e) w i h l = omega (arith, h)
 
   pub component_ref : (n : ℕ) (w : Which) (i : ℕ) (b : List Entry) (x : Core) → entry_at w i table ≡ Some x →
-      HoldsComponent x → RefersTo b x
-      → ((c : Core) → RefersTo b c → InHandles c → ShapedBy (Ref n) c) → Ref (suc n) w i
+      IsComponent x → RefersTo b x
+      → ((c : Core) → RefersTo b c → HasHandles c → ShapedBy (Ref n) c) → Ref (suc n) w i
   component_ref n w i b (node t (ref v k m) end) e h r f = (t, ref v k m, e, h.0, f (ref v k m) r.0 h.1)
   component_ref n w i b (node t c end) e h r f = (t, c, e, h.0, f c r.0 h.1)
   component_ref n w i b _ e h r f = absurd h
 
-  pub bounded : (n : ℕ) (e r : List Entry) → table ≡ e ++ r → ReferBack [] table → EachEntry HoldsComponent table →
+  pub bounded : (n : ℕ) (e r : List Entry) → table ≡ e ++ r → ReferBack [] table → EachEntry IsComponent table →
       length e ≤ n → (c : Core)
-      → RefersTo e c → InHandles c → ShapedBy (Ref n) c
+      → RefersTo e c → HasHandles c → ShapedBy (Ref n) c
   unfolding entry_at
   bounded zero e r p h q l c s a = shaped_row (Ref zero) e (λ w i m. none_refers e w i l m) c s a
   bounded (suc n) e r p h q l c s a =
@@ -124,7 +129,7 @@ module _ (table : Table) (input : List ℕ) where
       (λ w i m.
       let f : Found [] w i e r = found [] w i e r (subst (ReferBack []) p h) m in
       let there : entry_at w i table ≡ Some f.tree = ap (λ u. slice_get (listed w u) i) p ∙ f.there in
-      component_ref n w i f.before f.tree there (each_listed HoldsComponent w table i f.tree q there) f.back
+      component_ref n w i f.before f.tree there (each_listed IsComponent w table i f.tree q there) f.back
       (λ d u v. bounded n f.before f.rest (p ∙ f.parts) h q (omega (arith, f.shorter, l)) d u v)) c s a
 
   -- ---- what is expanded

@@ -1,6 +1,7 @@
 -- Identifiers in UTF-8: of which characters they are, and how many bytes of such characters stand at the front.
 -- A character is its number, a scalar value of Unicode.
-use Rattle.std.specs.Prelude.{◌≡◌, ℕ, zero, suc, ◌+◌, ◌<◌, ◌≤◌, ◌↔◌, Bool, true, false, ◌&&◌, ◌||◌, ◌==◌, nat_lt, List, [], ◌∷◌, ◌++◌, length, take, if◌then◌else◌, IsUtf8, encode_utf8_all}
+use Rattle.std.specs.Prelude.{◌≡◌, ℕ, zero, suc, ◌+◌, ◌<◌, ◌≤◌, ◌↔◌, Bool, true, false, ◌&&◌, ◌||◌, ◌==◌, nat_lt, List}
+use Rattle.std.specs.Prelude.{[], ◌∷◌, ◌++◌, length, take, if◌then◌else◌, IsUtf8, encode_utf8_all}
 use Rattle.std.specs.List.{list_all}
 use lib.Utf8.{scalar}
 use Rattle.demangle_text.specs.Bytes.{within, is_digit, is_capital, is_small}
@@ -23,8 +24,8 @@ AreIdentifierChars bs = (cs : List ℕ) × (list_all is_identifier_char cs ≡ t
 abbrev pub tail : ℕ × ℕ
 tail = (0x80, 0xBF)
 
--- The least and the greatest of each byte (the Unicode Standard, table 3-7, Well-Formed UTF-8 Byte Sequences): so that no form is
--- overlong, a surrogate or past U+10FFFF.
+-- The least and the greatest of each byte (the Unicode Standard, table 3-7, Well-Formed UTF-8 Byte Sequences): so that
+-- no form is overlong, a surrogate or past U+10FFFF.
 abbrev pub sequences : List (List (ℕ × ℕ))
 sequences =
     ((0xC2, 0xDF) ∷ tail ∷ [])

@@ -1,7 +1,10 @@
 -- Why a reading stops: what every definition of a reading and every contract of a reader says of a failure.
 use Rattle.std.specs.Prelude.{◌≡◌, Bool, true, false, Result, Ok, Err}
 use Rattle.demangle_text.specs.declared.error.Error.{Error}
-use Rattle.demangle_text.specs.declared.error.Error.TheVariants.{UnexpectedEnd, UnexpectedText, BadBackReference, BadTemplateArgReference, ForwardTemplateArgReference, BadFunctionArgReference, BadLeafNameReference, Overflow, TooMuchRecursion, OutOfMemory}
+use Rattle.demangle_text.specs.declared.error.Error.TheVariants.{UnexpectedEnd, UnexpectedText, BadBackReference}
+use Rattle.demangle_text.specs.declared.error.Error.TheVariants.{BadTemplateArgReference, ForwardTemplateArgReference}
+use Rattle.demangle_text.specs.declared.error.Error.TheVariants.{BadFunctionArgReference, BadLeafNameReference}
+use Rattle.demangle_text.specs.declared.error.Error.TheVariants.{Overflow, TooMuchRecursion, OutOfMemory}
 
 -- why bytes can't be read: they end too early, they are others, they refer to a component that isn't there,
 -- or their number is too large

@@ -1,5 +1,6 @@
 -- A place in the input: its index there, and the bytes from there on.
-use Rattle.std.specs.Prelude.{◌≡◌, ℕ, ◌+◌, Bool, ◌&&◌, ◌==◌, IsTrue, ◌↔◌, List, [], ◌∷◌, take, drop, bytes_eq, Option, Some, None}
+use Rattle.std.specs.Prelude.{◌≡◌, ℕ, ◌+◌, Bool, ◌&&◌, ◌==◌, IsTrue, ◌↔◌, List, [], ◌∷◌, take, drop, bytes_eq, Option}
+use Rattle.std.specs.Prelude.{Some, None}
 use Rattle.demangle_text.specs.declared.index_str.IndexStr.{IndexStr}
 
 pub record Spot : Type 0 where

@@ -1,5 +1,6 @@
 -- A word of the grammar at the front of the bytes.
-use Rattle.std.specs.Prelude.{ℕ, Bool, true, false, ◌&&◌, ◌==◌, nat_lt, List, [], ◌∷◌, length, if◌then◌else◌, Result, Ok, Err}
+use Rattle.std.specs.Prelude.{ℕ, Bool, true, false, ◌&&◌, ◌==◌, nat_lt, List, [], ◌∷◌, length, if◌then◌else◌, Result}
+use Rattle.std.specs.Prelude.{Ok, Err}
 use Rattle.demangle_text.specs.Kind.{Cause, End, Text, Kind, Unread}
 use Rattle.demangle_text.specs.Spot.{Spot, skip}
 

@@ -2,6 +2,7 @@
 
 ghost use Rattle.std.specs.Prelude.{◌≡◌, ◌≤◌, length};
 ghost use Rattle.demangle_text.specs.Characters.{is_identifier_byte, sequence_len, char_len, identifier_len};
+ghost use Rattle.demangle_text.specs.Characters.{AreIdentifierChars};
 
 /// Whether an ASCII byte is a character of an identifier.
 fn is_identifier_byte(byte: u8) -> bool
@@ -10,7 +11,8 @@ fn is_identifier_byte(byte: u8) -> bool
     matches!(byte, b'0'..=b'9' | b'A'..=b'Z' | b'a'..=b'z' | b'$' | b'_' | b'.')
 }
 
-/// How many bytes a character past U+007F takes at the front, and 0 where there is none (the Unicode Standard, table 3-7).
+/// How many bytes a character past U+007F takes at the front, and 0 where there is none (the Unicode Standard, table
+/// 3-7).
 #[tactic(auto, unfolding(crate::specs::Characters::sequence_len))]
 fn sequence_len(bytes: &[u8]) -> usize
     ensures { result ≡ sequence_len bytes.now }
@@ -41,8 +43,8 @@ fn char_len(bytes: &[u8]) -> usize
     }
 }
 
-/// How many bytes the longest run of characters of an identifier takes at the front: ASCII letters, digits, `$`, `_`, `.`, and
-/// characters past U+007F in well-formed UTF-8. It is one pass.
+/// How many bytes the longest run of characters of an identifier takes at the front: ASCII letters, digits, `$`, `_`,
+/// `.`, and characters past U+007F in well-formed UTF-8. It is one pass.
 pub fn identifier_len(bytes: &[u8]) -> usize
     ensures value { result ≡ identifier_len bytes.now }
     ensures inside { result ≤ length bytes.now }
@@ -56,4 +58,12 @@ pub fn identifier_len(bytes: &[u8]) -> usize
         count += len;
     }
     count
+}
+
+/// The bytes of an identifier as text. They aren't looked at again: their characters are UTF-8.
+pub fn identifier_str(bytes: &[u8]) -> &str
+    requires { AreIdentifierChars bytes.now }
+    ensures { result.now ≡ bytes.now }
+{
+    unsafe { str::from_utf8_unchecked(bytes) }
 }

@@ -1,6 +1,7 @@
 //! A slice of the input that knows its index there.
 
-ghost use Rattle.std.specs.Prelude.{◌≡◌, ◌+◌, ◌^◌, ◌<◌, ◌≤◌, ◌↔◌, ◌++◌, [], ◌∷◌, length, IsTrue, Ok, Err, MatchOption, MatchResult, slice_range};
+ghost use Rattle.std.specs.Prelude.{◌≡◌, ◌+◌, ◌^◌, ◌<◌, ◌≤◌, ◌↔◌, ◌++◌, [], ◌∷◌, length, IsTrue, Ok, Err, MatchOption};
+ghost use Rattle.std.specs.Prelude.{MatchResult, slice_range};
 
 use std::ops::{Range, RangeFrom, RangeTo};
 

@@ -1,7 +1,8 @@
 //! What holds of identifiers and slices. Nothing here runs: each function is a law, and its contract is the statement.
 
 ghost use Rattle.demangle_text.specs.Spot.{EqualSpots};
-ghost use Rattle.demangle_text.specs.Characters.{RunIsInside, RunIsChars, RunIsLongest, RunIsWhole, RunBegins, CharsAreText};
+ghost use Rattle.demangle_text.specs.Characters.{RunIsInside, RunIsChars, RunIsLongest, RunIsWhole, RunBegins};
+ghost use Rattle.demangle_text.specs.Characters.{CharsAreText};
 
 /// `==` of two slices holds exactly where their indexes and their bytes are equal.
 pub fn equal_is_same()

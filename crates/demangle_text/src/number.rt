@@ -1,10 +1,12 @@
 //! Numbers of the grammar (ABI section 5.1.2, <number> and <seq-id>).
 
-ghost use Rattle.std.specs.Prelude.{◌≡◌, ◌≤◌, ◌^◌, ◌<◌, ◌⊎◌, ◌+◌, ◌*◌, IfOk, IfErr, OnOk, Option, Some, None, MatchOption, if◌then◌else◌, length, IsTrue, ◌↔◌};
+ghost use Rattle.std.specs.Prelude.{◌≡◌, ◌≤◌, ◌^◌, ◌<◌, ◌⊎◌, ◌+◌, ◌*◌, IfOk, IfErr, OnOk, Option, Some, None};
+ghost use Rattle.std.specs.Prelude.{MatchOption, if◌then◌else◌, length, IsTrue, ◌↔◌};
 ghost use Rattle.demangle_text.specs.Kind.{Gives, Cause, Unread, kind};
 ghost use Rattle.demangle_text.specs.Spot.{spot};
 ghost use Rattle.demangle_text.specs.Found.{none};
-ghost use Rattle.demangle_text.specs.Number.{number_from, natural_from, natural_at, bounded, run_of, value_of, is_digit_in, digit_value};
+ghost use Rattle.demangle_text.specs.Number.{number_from, natural_from, natural_at, bounded, run_of, value_of};
+ghost use Rattle.demangle_text.specs.Number.{is_digit_in, digit_value};
 
 use crate::error::{Error, Result};
 use crate::index_str::IndexStr;
@@ -39,7 +41,8 @@ fn check_front(base: u32, bytes: &[u8]) -> Result<()>
 fn run_value(base: u32, bytes: &[u8]) -> Option<(u64, usize)>
     requires { (base ≡ 10) ⊎ (base ≡ 36) }
     ensures { MatchOption result (2 ^ 63 ≤ value_of base 0 (run_of base bytes.now))
-        (λ x. (x.0 ≡ value_of base 0 (run_of base bytes.now)) × (x.1 ≡ length (run_of base bytes.now)) × (x.0 < 2 ^ 63)) }
+        (λ x. (x.0 ≡ value_of base 0 (run_of base bytes.now)) × (x.1 ≡ length (run_of base bytes.now))
+        × (x.0 < 2 ^ 63)) }
 {
     let mut value: u64 = 0;
     for (i, byte) in bytes.iter().enumerate() {
@@ -68,8 +71,8 @@ fn shifted(base: u32, value: u64, digit: u64) -> Option<u64>
     }
 }
 
-/// A number without a sign in base 10 or 36, and the rest. `UnexpectedEnd` where nothing is left, `UnexpectedText` where no
-/// digit is next or where a `0` stands before another digit, `Overflow` where the value passes 2^63 - 1.
+/// A number without a sign in base 10 or 36, and the rest. `UnexpectedEnd` where nothing is left, `UnexpectedText`
+/// where no digit is next or where a `0` stands before another digit, `Overflow` where the value passes 2^63 - 1.
 #[tactic(auto, unfolding(crate::specs::Number::natural_from))]
 pub fn parse_unsigned<'a>(base: u32, input: IndexStr<'a>) -> Result<(usize, IndexStr<'a>)>
     requires { (base ≡ 10) ⊎ (base ≡ 36) }
@@ -83,7 +86,8 @@ pub fn parse_unsigned<'a>(base: u32, input: IndexStr<'a>) -> Result<(usize, Inde
     }
 }
 
-/// A number in base 10 or 36, with `n` before it where it is negative and signs are allowed, and the rest. Refused as by
+/// A number in base 10 or 36, with `n` before it where it is negative and signs are allowed, and the rest. Refused as
+/// by
 /// `parse_unsigned`; nothing left behind `n` is `UnexpectedEnd`.
 #[tactic(auto, unfolding(crate::specs::Number::natural_from, crate::specs::Number::number_from))]
 pub fn parse_number<'a>(

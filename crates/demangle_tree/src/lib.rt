@@ -1,12 +1,12 @@
 //! The syntax tree: its node types, the substitution table and the look-ups through it.
 #![tactic(auto)]
 
-mod laws;
 mod leaf_names;
 mod special_names;
 mod steps;
 mod template_args;
 
+pub use demangle_core::lookups_end;
 pub use demangle_entries::{
     AbiTag, AbiTags, ArrayType, BareFunctionType, BaseUnresolvedName, BuiltinType, CallOffset,
     ClassEnumType, CloneSuffix, CloneTypeIdentifier, ClosureTypeName, CtorDtorName, CvQualifiers,
@@ -21,8 +21,7 @@ pub use demangle_entries::{
     UnresolvedTypeHandle, UnscopedName, UnscopedTemplateName, UnscopedTemplateNameHandle, VOffset,
     VectorType,
 };
-pub use demangle_table::{CopyComponent, SubstitutionTable, insert_and_cut_back};
-pub use laws::lookups_end;
+pub use demangle_table::{CopyComponent, SubstitutionTable};
 pub use leaf_names::GetLeafName;
 pub use special_names::IsCtorDtorConversion;
 pub use template_args::GetTemplateArgs;

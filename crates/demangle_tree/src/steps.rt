@@ -1,104 +1,89 @@
-//! One step of a look-up.
+//! One step of a look-up, and the loop that goes from step to step.
 
-ghost use Rattle.std.specs.Prelude.{◌≡◌, is_some, option_map};
-ghost use Rattle.demangle_tree.specs.Lookups.{answer_of, refers};
-ghost use Rattle.demangle_nodes.specs.TreeNodes.{tree_of_template_args};
+ghost use Rattle.std.specs.Prelude.{◌≡◌, option_map};
+ghost use Rattle.demangle_core.specs.Core.{Core};
+ghost use Rattle.demangle_core.specs.Lookups.{Next, after, answer_of, refers, settled};
+ghost use Rattle.demangle_entries.specs.TreeEntries.{tree_of_substitutable};
+ghost use Rattle.demangle_table.specs.TableOf.{table_of};
+ghost use Rattle.demangle_tree.specs.Steps.{next_of};
 
-use demangle_entries::{LeafName, TemplateArgs};
+use demangle_entries::Substitutable;
+use demangle_table::SubstitutionTable;
 
-/// What a node says of its leaf name: that it is this one, that there is none, or that it is the one of a component.
+/// Where a look-up comes to in one node: to its answer, to an end without one, or to a component, whose answer is the
+/// answer.
 #[derive(Clone, Copy)]
-pub(crate) enum LeafStep<'a> {
-    Answer(LeafName<'a>),
+pub(crate) enum Step<A> {
+    Answer(A),
     Nothing,
     Numbered(usize),
     Other(usize),
 }
 
-impl<'a> LeafStep<'a> {
-    ghost use Rattle.demangle_tree.specs.LookupsOf.{next_of};
-    ghost use Rattle.demangle_leaf_nodes.specs.TreeLeaves.{tree_of_leaf_name};
-
-    pub(crate) fn refers(&self) -> bool
-        ensures { result ≡ refers (next_of self.now) }
+impl<A: Copy> Step<A> {
+    fn refers(&self) -> bool
+        ensures { (tree : A → Core) → result ≡ refers (next_of tree self.now) }
     {
         match self {
-            LeafStep::Numbered(_) => true,
-            LeafStep::Other(_) => true,
+            Step::Numbered(_) => true,
+            Step::Other(_) => true,
             _ => false,
         }
     }
 
-    pub(crate) fn answer(self) -> Option<LeafName<'a>>
-        ensures { option_map tree_of_leaf_name result ≡ answer_of (next_of self.entry) }
+    fn answer(self) -> Option<A>
+        ensures { (tree : A → Core) → option_map tree result ≡ answer_of (next_of tree self) }
     {
         match self {
-            LeafStep::Answer(name) => Some(name),
+            Step::Answer(answer) => Some(answer),
             _ => None,
         }
     }
 }
 
-/// What a node says of its template arguments.
-#[derive(Clone, Copy)]
-pub(crate) enum ArgsStep<'a> {
-    Answer(&'a TemplateArgs),
-    Nothing,
-    Numbered(usize),
-    Other(usize),
+/// A look-up: what it answers with, and where it comes to in a component.
+pub(crate) trait LookUp<'a> {
+    type Answer: Copy;
+
+    /// The tree of an answer.
+    ghost tree: { Self.Answer → Core };
+    /// Where its definition comes to in the tree of a component.
+    ghost step: { Core → Next Core };
+
+    fn step_of(component: &'a Substitutable) -> Step<Self::Answer>
+        ensures { next_of tree result ≡ step (tree_of_substitutable component.now) };
 }
 
-impl<'a> ArgsStep<'a> {
-    ghost use Rattle.demangle_tree.specs.LookupsOf.{args_next};
-
-    pub(crate) fn refers(&self) -> bool
-        ensures { result ≡ refers (args_next self.now) }
-    {
-        match self {
-            ArgsStep::Numbered(_) => true,
-            ArgsStep::Other(_) => true,
-            _ => false,
-        }
-    }
-
-    pub(crate) fn answer(self) -> Option<&'a TemplateArgs>
-        ensures { option_map (λ x. tree_of_template_args x.now) result ≡ answer_of (args_next self.entry) }
-    {
-        match self {
-            ArgsStep::Answer(args) => Some(args),
-            _ => None,
-        }
+fn after<'a, L: LookUp<'a>>(step: Step<L::Answer>, subs: &'a SubstitutionTable) -> Step<L::Answer>
+    ensures { next_of L.tree result ≡ after L.step (table_of subs.now) (next_of L.tree step) }
+{
+    match step {
+        Step::Numbered(idx) => match subs.get(idx) {
+            Some(component) => L::step_of(component),
+            None => Step::Nothing,
+        },
+        Step::Other(idx) => match subs.get_non_substitution(idx) {
+            Some(component) => L::step_of(component),
+            None => Step::Nothing,
+        },
+        _ => step,
     }
 }
 
-/// Whether a node is a constructor, a destructor or a conversion.
-#[derive(Clone, Copy)]
-pub(crate) enum SpecialStep {
-    Yes,
-    No,
-    Numbered(usize),
-    Other(usize),
-}
-
-impl SpecialStep {
-    ghost use Rattle.demangle_tree.specs.LookupsOf.{special_next};
-
-    pub(crate) fn refers(&self) -> bool
-        ensures { result ≡ refers (special_next self.now) }
-    {
-        match self {
-            SpecialStep::Numbered(_) => true,
-            SpecialStep::Other(_) => true,
-            _ => false,
-        }
+/// The answer that follows from the first step. References are followed by a loop, at most as often as the table has
+/// components, so a long chain of them takes no stack.
+#[tactic(auto, using(demangle_core::proofs::Resolved::following))]
+pub(crate) fn follow<'a, L: LookUp<'a>>(
+    first: Step<L::Answer>,
+    subs: &'a SubstitutionTable,
+) -> Option<L::Answer>
+    ensures { option_map L.tree result ≡ settled L.step (table_of subs.now) (next_of L.tree first) }
+{
+    let mut step = first;
+    let mut more = subs.entry_count();
+    while more > 0 && step.refers() {
+        step = after::<L>(step, subs);
+        more -= 1;
     }
-
-    pub(crate) fn answer(self) -> bool
-        ensures { result ≡ is_some (answer_of (special_next self)) }
-    {
-        match self {
-            SpecialStep::Yes => true,
-            _ => false,
-        }
-    }
+    step.answer()
 }

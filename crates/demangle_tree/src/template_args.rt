@@ -1,177 +1,136 @@
 //! The template arguments of a name or a type.
 
-ghost use Rattle.std.specs.Prelude.{◌≡◌, ◌+◌, option_map};
-ghost use Rattle.demangle_core.specs.Core.{Core, N, U};
-ghost use Rattle.demangle_core.specs.Table.{size};
-ghost use Rattle.demangle_tree.specs.Lookups.{Sort, after, args_step, as_prefix, as_type, prefix_args, resolve, template_args, type_args};
-ghost use Rattle.demangle_tree.specs.LookupsOf.{args_next};
+ghost use Rattle.std.specs.Prelude.{◌≡◌, option_map};
+ghost use Rattle.demangle_core.specs.Core.{Core};
+ghost use Rattle.demangle_core.specs.Lookups.{Sort, args_step, as_prefix, as_type, component_args, template_args};
+ghost use Rattle.demangle_tree.specs.Steps.{next_of, tree_of_args};
 ghost use Rattle.demangle_table.specs.TableOf.{table_of};
 ghost use Rattle.demangle_leaf_nodes.specs.TreeLeaves.{tree_of_nested_name, tree_of_prefix_handle, tree_of_type_handle};
-ghost use Rattle.demangle_nodes.specs.TreeNodes.{tree_of_local_name, tree_of_name, tree_of_template_args};
+ghost use Rattle.demangle_nodes.specs.TreeNodes.{tree_of_local_name, tree_of_name};
 ghost use Rattle.demangle_entries.specs.TreeEntries.{tree_of_prefix, tree_of_substitutable, tree_of_type_node};
 
-use crate::steps::ArgsStep;
+use crate::steps::{LookUp, Step, follow};
 use demangle_entries::{
     LocalName, Name, NestedName, Prefix, PrefixHandle, Substitutable, TemplateArgs, TypeHandle,
     TypeNode,
 };
 use demangle_table::SubstitutionTable;
 
-fn args_of_prefix_handle<'a>(node: &'a PrefixHandle) -> ArgsStep<'a>
-    ensures { args_next result ≡ args_step (tree_of_prefix_handle node.now) }
+fn args_of_prefix_handle<'a>(node: &'a PrefixHandle) -> Step<&'a TemplateArgs>
+    ensures { next_of tree_of_args result ≡ args_step (tree_of_prefix_handle node.now) }
 {
     match node {
-        PrefixHandle::WellKnown(_) => ArgsStep::Nothing,
-        PrefixHandle::BackReference(idx) => ArgsStep::Numbered(*idx),
-        PrefixHandle::NonSubstitution(other) => ArgsStep::Other(other.0),
+        PrefixHandle::WellKnown(_) => Step::Nothing,
+        PrefixHandle::BackReference(idx) => Step::Numbered(*idx),
+        PrefixHandle::NonSubstitution(other) => Step::Other(other.0),
     }
 }
 
-fn args_of_type_handle<'a>(node: &'a TypeHandle) -> ArgsStep<'a>
-    ensures { args_next result ≡ args_step (tree_of_type_handle node.now) }
+fn args_of_type_handle<'a>(node: &'a TypeHandle) -> Step<&'a TemplateArgs>
+    ensures { next_of tree_of_args result ≡ args_step (tree_of_type_handle node.now) }
 {
     match node {
-        TypeHandle::BackReference(idx) => ArgsStep::Numbered(*idx),
-        _ => ArgsStep::Nothing,
+        TypeHandle::BackReference(idx) => Step::Numbered(*idx),
+        _ => Step::Nothing,
     }
 }
 
-fn args_of_nested_name<'a>(node: &'a NestedName) -> ArgsStep<'a>
-    ensures { args_next result ≡ args_step (tree_of_nested_name node.now) }
+fn args_of_nested_name<'a>(node: &'a NestedName) -> Step<&'a TemplateArgs>
+    ensures { next_of tree_of_args result ≡ args_step (tree_of_nested_name node.now) }
 {
     match node {
         NestedName::Template(_, _, prefix) => args_of_prefix_handle(prefix),
         NestedName::TemplateExplicitObject(prefix, _) => args_of_prefix_handle(prefix),
-        _ => ArgsStep::Nothing,
+        _ => Step::Nothing,
     }
 }
 
 #[cycle(args)]
 #[tactic(auto, using(demangle_nodes::proofs::Parts::parts_name))]
-fn args_of_name<'a>(node: &'a Name) -> ArgsStep<'a>
-    ensures { args_next result ≡ args_step (tree_of_name node.now) }
+fn args_of_name<'a>(node: &'a Name) -> Step<&'a TemplateArgs>
+    ensures { next_of tree_of_args result ≡ args_step (tree_of_name node.now) }
 {
     match node {
         Name::Nested(name) => args_of_nested_name(name),
-        Name::Unscoped(_) => ArgsStep::Nothing,
-        Name::UnscopedTemplate(_, args) => ArgsStep::Answer(args),
+        Name::Unscoped(_) => Step::Nothing,
+        Name::UnscopedTemplate(_, args) => Step::Answer(args),
         Name::Local(name) => args_of_local_name(name),
     }
 }
 
 #[cycle(args)]
 #[tactic(auto, using(demangle_nodes::proofs::Parts::parts_local_name))]
-fn args_of_local_name<'a>(node: &'a LocalName) -> ArgsStep<'a>
-    ensures { args_next result ≡ args_step (tree_of_local_name node.now) }
+fn args_of_local_name<'a>(node: &'a LocalName) -> Step<&'a TemplateArgs>
+    ensures { next_of tree_of_args result ≡ args_step (tree_of_local_name node.now) }
 {
     match node {
         LocalName::Relative(_, name, _) => match name {
             Some(name) => args_of_name(name),
-            None => ArgsStep::Nothing,
+            None => Step::Nothing,
         },
         LocalName::Default(_, _, name) => args_of_name(name),
     }
 }
 
-fn args_of_prefix<'a>(node: &'a Prefix) -> ArgsStep<'a>
-    ensures { args_next result ≡ args_step (tree_of_prefix node.now) }
+fn args_of_prefix<'a>(node: &'a Prefix) -> Step<&'a TemplateArgs>
+    ensures { next_of tree_of_args result ≡ args_step (tree_of_prefix node.now) }
 {
     match node {
-        Prefix::Template(_, args) => ArgsStep::Answer(args),
-        _ => ArgsStep::Nothing,
+        Prefix::Template(_, args) => Step::Answer(args),
+        _ => Step::Nothing,
     }
 }
 
-fn args_of_type_node<'a>(node: &'a TypeNode) -> ArgsStep<'a>
-    ensures { args_next result ≡ args_step (tree_of_type_node node.now) }
+fn args_of_type_node<'a>(node: &'a TypeNode) -> Step<&'a TemplateArgs>
+    ensures { next_of tree_of_args result ≡ args_step (tree_of_type_node node.now) }
 {
     match node {
-        TypeNode::TemplateTemplate(_, args) => ArgsStep::Answer(args),
+        TypeNode::TemplateTemplate(_, args) => Step::Answer(args),
         TypeNode::VendorExtension(_, args, _) => match args {
-            Some(args) => ArgsStep::Answer(args),
-            None => ArgsStep::Nothing,
+            Some(args) => Step::Answer(args),
+            None => Step::Nothing,
         },
         TypeNode::PointerTo(pointee) => args_of_type_handle(pointee),
         TypeNode::LvalueRef(referee) => args_of_type_handle(referee),
         TypeNode::RvalueRef(referee) => args_of_type_handle(referee),
-        _ => ArgsStep::Nothing,
+        _ => Step::Nothing,
     }
 }
 
-fn args_of_prefix_entry<'a>(entry: &'a Substitutable) -> ArgsStep<'a>
-    ensures { args_next result ≡ prefix_args (tree_of_substitutable entry.now) }
-{
-    match entry {
-        Substitutable::Prefix(node) => args_of_prefix(node),
-        _ => ArgsStep::Nothing,
+/// The look-up of arguments for a prefix: the components that it asks must be prefixes.
+struct PrefixArgs;
+
+impl<'a> LookUp<'a> for PrefixArgs {
+    type Answer = &'a TemplateArgs;
+
+    ghost tree = { tree_of_args };
+
+    ghost step = { component_args as_prefix };
+
+    fn step_of(component: &'a Substitutable) -> Step<&'a TemplateArgs> {
+        match component {
+            Substitutable::Prefix(node) => args_of_prefix(node),
+            _ => Step::Nothing,
+        }
     }
 }
 
-fn after_prefix<'a>(step: ArgsStep<'a>, subs: &'a SubstitutionTable) -> ArgsStep<'a>
-    ensures { args_next result ≡ after prefix_args (table_of subs.now) (args_next step.entry) }
-{
-    match step {
-        ArgsStep::Numbered(idx) => match subs.get(idx) {
-            Some(entry) => args_of_prefix_entry(entry),
-            None => ArgsStep::Nothing,
-        },
-        ArgsStep::Other(idx) => match subs.get_non_substitution(idx) {
-            Some(entry) => args_of_prefix_entry(entry),
-            None => ArgsStep::Nothing,
-        },
-        _ => step,
-    }
-}
+/// The look-up of arguments for a type: the components that it asks must be types.
+struct TypeArgs;
 
-#[tactic(auto, using(crate::proofs::Resolved::following))]
-fn follow_prefix<'a>(first: ArgsStep<'a>, subs: &'a SubstitutionTable) -> Option<&'a TemplateArgs>
-    ensures { option_map (λ x. tree_of_template_args x.now) result ≡ resolve prefix_args (size N (table_of subs.now) + size U (table_of subs.now)) (table_of subs.now) (args_next first.entry) }
-{
-    let mut step = first;
-    let mut more = subs.entry_count();
-    while more > 0 && step.refers() {
-        step = after_prefix(step, subs);
-        more -= 1;
-    }
-    step.answer()
-}
+impl<'a> LookUp<'a> for TypeArgs {
+    type Answer = &'a TemplateArgs;
 
-fn args_of_type_entry<'a>(entry: &'a Substitutable) -> ArgsStep<'a>
-    ensures { args_next result ≡ type_args (tree_of_substitutable entry.now) }
-{
-    match entry {
-        Substitutable::TypeNode(node) => args_of_type_node(node),
-        _ => ArgsStep::Nothing,
-    }
-}
+    ghost tree = { tree_of_args };
 
-fn after_type<'a>(step: ArgsStep<'a>, subs: &'a SubstitutionTable) -> ArgsStep<'a>
-    ensures { args_next result ≡ after type_args (table_of subs.now) (args_next step.entry) }
-{
-    match step {
-        ArgsStep::Numbered(idx) => match subs.get(idx) {
-            Some(entry) => args_of_type_entry(entry),
-            None => ArgsStep::Nothing,
-        },
-        ArgsStep::Other(idx) => match subs.get_non_substitution(idx) {
-            Some(entry) => args_of_type_entry(entry),
-            None => ArgsStep::Nothing,
-        },
-        _ => step,
-    }
-}
+    ghost step = { component_args as_type };
 
-#[tactic(auto, using(crate::proofs::Resolved::following))]
-fn follow_type<'a>(first: ArgsStep<'a>, subs: &'a SubstitutionTable) -> Option<&'a TemplateArgs>
-    ensures { option_map (λ x. tree_of_template_args x.now) result ≡ resolve type_args (size N (table_of subs.now) + size U (table_of subs.now)) (table_of subs.now) (args_next first.entry) }
-{
-    let mut step = first;
-    let mut more = subs.entry_count();
-    while more > 0 && step.refers() {
-        step = after_type(step, subs);
-        more -= 1;
+    fn step_of(component: &'a Substitutable) -> Step<&'a TemplateArgs> {
+        match component {
+            Substitutable::TypeNode(node) => args_of_type_node(node),
+            _ => Step::Nothing,
+        }
     }
-    step.answer()
 }
 
 /// The template arguments of a name or a type. The original's trait of this name.
@@ -184,7 +143,7 @@ pub trait GetTemplateArgs {
     /// The arguments, found in the components that this refers to where they aren't here; `None`
     /// exactly where there are none, or where the references go round.
     fn get_template_args<'a>(&'a self, subs: &'a SubstitutionTable) -> Option<&'a TemplateArgs>
-        ensures { option_map (λ x. tree_of_template_args x.now) result ≡ template_args sort (table_of subs.now) (tree self.now) };
+        ensures { option_map tree_of_args result ≡ template_args sort (table_of subs.now) (tree self.now) };
 }
 
 impl GetTemplateArgs for Name {
@@ -192,9 +151,9 @@ impl GetTemplateArgs for Name {
 
     ghost sort = { as_prefix };
 
-    #[tactic(auto, unfolding(crate::specs::Lookups::args_of_prefix))]
+    #[tactic(auto, unfolding(demangle_core::specs::Lookups::template_args))]
     fn get_template_args<'a>(&'a self, subs: &'a SubstitutionTable) -> Option<&'a TemplateArgs> {
-        follow_prefix(args_of_name(self), subs)
+        follow::<PrefixArgs>(args_of_name(self), subs)
     }
 }
 
@@ -203,9 +162,9 @@ impl GetTemplateArgs for NestedName {
 
     ghost sort = { as_prefix };
 
-    #[tactic(auto, unfolding(crate::specs::Lookups::args_of_prefix))]
+    #[tactic(auto, unfolding(demangle_core::specs::Lookups::template_args))]
     fn get_template_args<'a>(&'a self, subs: &'a SubstitutionTable) -> Option<&'a TemplateArgs> {
-        follow_prefix(args_of_nested_name(self), subs)
+        follow::<PrefixArgs>(args_of_nested_name(self), subs)
     }
 }
 
@@ -214,9 +173,9 @@ impl GetTemplateArgs for Prefix {
 
     ghost sort = { as_prefix };
 
-    #[tactic(auto, unfolding(crate::specs::Lookups::args_of_prefix))]
+    #[tactic(auto, unfolding(demangle_core::specs::Lookups::template_args))]
     fn get_template_args<'a>(&'a self, subs: &'a SubstitutionTable) -> Option<&'a TemplateArgs> {
-        follow_prefix(args_of_prefix(self), subs)
+        follow::<PrefixArgs>(args_of_prefix(self), subs)
     }
 }
 
@@ -225,9 +184,9 @@ impl GetTemplateArgs for PrefixHandle {
 
     ghost sort = { as_prefix };
 
-    #[tactic(auto, unfolding(crate::specs::Lookups::args_of_prefix))]
+    #[tactic(auto, unfolding(demangle_core::specs::Lookups::template_args))]
     fn get_template_args<'a>(&'a self, subs: &'a SubstitutionTable) -> Option<&'a TemplateArgs> {
-        follow_prefix(args_of_prefix_handle(self), subs)
+        follow::<PrefixArgs>(args_of_prefix_handle(self), subs)
     }
 }
 
@@ -236,9 +195,9 @@ impl GetTemplateArgs for LocalName {
 
     ghost sort = { as_prefix };
 
-    #[tactic(auto, unfolding(crate::specs::Lookups::args_of_prefix))]
+    #[tactic(auto, unfolding(demangle_core::specs::Lookups::template_args))]
     fn get_template_args<'a>(&'a self, subs: &'a SubstitutionTable) -> Option<&'a TemplateArgs> {
-        follow_prefix(args_of_local_name(self), subs)
+        follow::<PrefixArgs>(args_of_local_name(self), subs)
     }
 }
 
@@ -247,9 +206,9 @@ impl GetTemplateArgs for TypeHandle {
 
     ghost sort = { as_type };
 
-    #[tactic(auto, unfolding(crate::specs::Lookups::args_of_type))]
+    #[tactic(auto, unfolding(demangle_core::specs::Lookups::template_args))]
     fn get_template_args<'a>(&'a self, subs: &'a SubstitutionTable) -> Option<&'a TemplateArgs> {
-        follow_type(args_of_type_handle(self), subs)
+        follow::<TypeArgs>(args_of_type_handle(self), subs)
     }
 }
 
@@ -258,8 +217,8 @@ impl GetTemplateArgs for TypeNode {
 
     ghost sort = { as_type };
 
-    #[tactic(auto, unfolding(crate::specs::Lookups::args_of_type))]
+    #[tactic(auto, unfolding(demangle_core::specs::Lookups::template_args))]
     fn get_template_args<'a>(&'a self, subs: &'a SubstitutionTable) -> Option<&'a TemplateArgs> {
-        follow_type(args_of_type_node(self), subs)
+        follow::<TypeArgs>(args_of_type_node(self), subs)
     }
 }

@@ -1,6 +1,6 @@
 //! The table's calls.
 
-use demangle_tree::{Substitutable, SubstitutionTable, TypeHandle, insert_and_cut_back};
+use demangle_tree::{Substitutable, SubstitutionTable, TypeHandle};
 use demangle_tree_samples::{
     class, int, is_pointer_to_int, is_type_pointer_to_int, listed, pointer_to_int, position,
 };
@@ -168,13 +168,6 @@ fn cutting_takes_out_numbered_ones(rt: HostRuntime) {
     assert!(rt; subs.get(0).is_none());
     assert!(rt; is_some_pointer(subs.get_non_substitution(0)));
     assert!(rt; subs.lengths() == (0, 1));
-}
-
-#[test]
-fn inserting_and_cutting_back_keeps_the_lengths(rt: HostRuntime) {
-    let mut subs = one_each(rt.alloc()).expect(&rt, "memory");
-    insert_and_cut_back(&mut subs, pointer_to_int(), pointer_to_int());
-    assert!(rt; subs.lengths() == (1, 1));
 }
 
 #[test]

@@ -2,7 +2,7 @@
 use Rattle.std.proofs.Common.{◌≡◌, ℕ, suc, ◌<◌, ◌≤◌, List, [], ◌∷◌, length, slice_index, arith, refl, ap, ◌∙◌, Bool, true, false, ◌==◌, ◌&&◌, if◌then◌else◌, Option, Some, None, Err}
 use Rattle.demangle_text.specs.Kind.{End, Text, Unread}
 use Rattle.demangle_text.specs.Found.{and_length}
-use Rattle.demangle_vocab.specs.Table.{no_word, word_in, word_or, word_read}
+use Rattle.demangle_vocab.specs.WordTable.{no_word, word_in, word_or, word_read}
 use Rattle.demangle_vocab.specs.Operators.{operator_words, operator_of, operator_cut, read_pair}
 
 abbrev pub are_pairs : List (List ℕ) → Bool

@@ -1,9 +1,28 @@
 -- The builtin types (ABI section 5.1.5.2, <builtin-type>): word, text.
 use Rattle.std.specs.Prelude.{ℕ, List, [], ◌∷◌, codes}
 use Prim.Native.String.{String}
-use Rattle.demangle_vocab.specs.Table.{Entry, words}
+use Rattle.demangle_vocab.specs.WordTable.{Entry, words}
 use Rattle.demangle_vocab.specs.declared.builtin.StandardBuiltinType.{StandardBuiltinType}
-use Rattle.demangle_vocab.specs.declared.builtin.StandardBuiltinType.TheVariants.{Void, Wchar, Bool, Char, SignedChar, UnsignedChar, Short, UnsignedShort, Int, UnsignedInt, Long, UnsignedLong, LongLong, UnsignedLongLong, Int128, Uint128, Float, Double, LongDouble, Float128, Ellipsis, DecimalFloat64, DecimalFloat128, DecimalFloat32, DecimalFloat16, BFloat16, Char32, Char16, Char8, Auto, Decltype, Nullptr, AccumShort, AccumUShort, Accum, AccumUnsigned, AccumLong, AccumULong, FractShort, FractUShort, Fract, FractUnsigned, FractLong, FractULong, SatAccumShort, SatAccumUShort, SatAccum, SatAccumUnsigned, SatAccumLong, SatAccumULong, SatFractShort, SatFractUShort, SatFract, SatFractUnsigned, SatFractLong, SatFractULong}
+use Rattle.demangle_vocab.specs.declared.builtin.StandardBuiltinType.TheVariants.{Void, Wchar, Bool, Char, SignedChar}
+use Rattle.demangle_vocab.specs.declared.builtin.StandardBuiltinType.TheVariants.{UnsignedChar, Short, UnsignedShort}
+use Rattle.demangle_vocab.specs.declared.builtin.StandardBuiltinType.TheVariants.{Int, UnsignedInt, Long, UnsignedLong}
+use Rattle.demangle_vocab.specs.declared.builtin.StandardBuiltinType.TheVariants.{LongLong, UnsignedLongLong, Int128}
+use Rattle.demangle_vocab.specs.declared.builtin.StandardBuiltinType.TheVariants.{Uint128, Float, Double, LongDouble}
+use Rattle.demangle_vocab.specs.declared.builtin.StandardBuiltinType.TheVariants.{Float128, Ellipsis, DecimalFloat64}
+use Rattle.demangle_vocab.specs.declared.builtin.StandardBuiltinType.TheVariants.{DecimalFloat128, DecimalFloat32}
+use Rattle.demangle_vocab.specs.declared.builtin.StandardBuiltinType.TheVariants.{DecimalFloat16, BFloat16, Char32}
+use Rattle.demangle_vocab.specs.declared.builtin.StandardBuiltinType.TheVariants.{Char16, Char8, Auto, Decltype}
+use Rattle.demangle_vocab.specs.declared.builtin.StandardBuiltinType.TheVariants.{Nullptr, AccumShort, AccumUShort}
+use Rattle.demangle_vocab.specs.declared.builtin.StandardBuiltinType.TheVariants.{Accum, AccumUnsigned, AccumLong}
+use Rattle.demangle_vocab.specs.declared.builtin.StandardBuiltinType.TheVariants.{AccumULong, FractShort, FractUShort}
+use Rattle.demangle_vocab.specs.declared.builtin.StandardBuiltinType.TheVariants.{Fract, FractUnsigned, FractLong}
+use Rattle.demangle_vocab.specs.declared.builtin.StandardBuiltinType.TheVariants.{FractULong, SatAccumShort}
+use Rattle.demangle_vocab.specs.declared.builtin.StandardBuiltinType.TheVariants.{SatAccumUShort, SatAccum}
+use Rattle.demangle_vocab.specs.declared.builtin.StandardBuiltinType.TheVariants.{SatAccumUnsigned, SatAccumLong}
+use Rattle.demangle_vocab.specs.declared.builtin.StandardBuiltinType.TheVariants.{SatAccumULong, SatFractShort}
+use Rattle.demangle_vocab.specs.declared.builtin.StandardBuiltinType.TheVariants.{SatFractUShort, SatFract}
+use Rattle.demangle_vocab.specs.declared.builtin.StandardBuiltinType.TheVariants.{SatFractUnsigned, SatFractLong}
+use Rattle.demangle_vocab.specs.declared.builtin.StandardBuiltinType.TheVariants.{SatFractULong}
 
 abbrev pub builtin : String → String → Entry (Unit {0})
 builtin w t = record { word = codes w; text = codes t; more = tt }

@@ -1,9 +1,11 @@
 -- The abbreviated components (ABI section 5.1.10, <substitution>): word, text, and the leaf name, which `std` has not.
 use Rattle.std.specs.Prelude.{ℕ, List, [], ◌∷◌, codes, Option, Some, None}
 use Prim.Native.String.{String}
-use Rattle.demangle_vocab.specs.Table.{Entry, words}
+use Rattle.demangle_vocab.specs.WordTable.{Entry, words}
 use Rattle.demangle_vocab.specs.declared.component.WellKnownComponent.{WellKnownComponent}
-use Rattle.demangle_vocab.specs.declared.component.WellKnownComponent.TheVariants.{Std, StdAllocator, StdString1, StdString2, StdIstream, StdOstream, StdIostream}
+use Rattle.demangle_vocab.specs.declared.component.WellKnownComponent.TheVariants.{Std, StdAllocator, StdString1}
+use Rattle.demangle_vocab.specs.declared.component.WellKnownComponent.TheVariants.{StdString2, StdIstream, StdOstream}
+use Rattle.demangle_vocab.specs.declared.component.WellKnownComponent.TheVariants.{StdIostream}
 
 abbrev pub component : String → String → Option (List ℕ) → Entry (Option (List ℕ))
 component w t l = record { word = codes w; text = codes t; more = l }

@@ -1,4 +1,4 @@
-pub mod Table
+pub mod WordTable
 pub mod Operators
 pub mod Builtins
 pub mod Components

@@ -1,10 +1,22 @@
 -- The operators (ABI section 5.1.3, <operator-name>): word, text, number of operands.
 use Rattle.std.specs.Prelude.{ℕ, List, [], ◌∷◌, codes, Option, Some, None, Result, Ok, Err}
 use Prim.Native.String.{String}
-use Rattle.demangle_vocab.specs.Table.{Entry, words, word_in, no_word}
+use Rattle.demangle_vocab.specs.WordTable.{Entry, words, word_in, no_word}
 use Rattle.demangle_text.specs.Kind.{Cause, Text, Kind, Unread}
 use Rattle.demangle_vocab.specs.declared.operator.SimpleOperatorName.{SimpleOperatorName}
-use Rattle.demangle_vocab.specs.declared.operator.SimpleOperatorName.TheVariants.{New, NewArray, Delete, DeleteArray, UnaryPlus, Neg, AddressOf, Deref, BitNot, Add, Sub, Mul, Div, Rem, BitAnd, BitOr, BitXor, Assign, AddAssign, SubAssign, MulAssign, DivAssign, RemAssign, BitAndAssign, BitOrAssign, BitXorAssign, Shl, Shr, ShlAssign, ShrAssign, Eq, Ne, Less, Greater, LessEq, GreaterEq, Not, LogicalAnd, LogicalOr, PostInc, PostDec, Comma, DerefMemberPtr, DerefMember, Call, Index, Question, Spaceship}
+use Rattle.demangle_vocab.specs.declared.operator.SimpleOperatorName.TheVariants.{New, NewArray, Delete, DeleteArray}
+use Rattle.demangle_vocab.specs.declared.operator.SimpleOperatorName.TheVariants.{UnaryPlus, Neg, AddressOf, Deref}
+use Rattle.demangle_vocab.specs.declared.operator.SimpleOperatorName.TheVariants.{BitNot, Add, Sub, Mul, Div, Rem}
+use Rattle.demangle_vocab.specs.declared.operator.SimpleOperatorName.TheVariants.{BitAnd, BitOr, BitXor, Assign}
+use Rattle.demangle_vocab.specs.declared.operator.SimpleOperatorName.TheVariants.{AddAssign, SubAssign, MulAssign}
+use Rattle.demangle_vocab.specs.declared.operator.SimpleOperatorName.TheVariants.{DivAssign, RemAssign, BitAndAssign}
+use Rattle.demangle_vocab.specs.declared.operator.SimpleOperatorName.TheVariants.{BitOrAssign, BitXorAssign, Shl, Shr}
+use Rattle.demangle_vocab.specs.declared.operator.SimpleOperatorName.TheVariants.{ShlAssign, ShrAssign, Eq, Ne, Less}
+use Rattle.demangle_vocab.specs.declared.operator.SimpleOperatorName.TheVariants.{Greater, LessEq, GreaterEq, Not}
+use Rattle.demangle_vocab.specs.declared.operator.SimpleOperatorName.TheVariants.{LogicalAnd, LogicalOr, PostInc}
+use Rattle.demangle_vocab.specs.declared.operator.SimpleOperatorName.TheVariants.{PostDec, Comma, DerefMemberPtr}
+use Rattle.demangle_vocab.specs.declared.operator.SimpleOperatorName.TheVariants.{DerefMember, Call, Index, Question}
+use Rattle.demangle_vocab.specs.declared.operator.SimpleOperatorName.TheVariants.{Spaceship}
 
 abbrev pub operator : String → String → ℕ → Entry ℕ
 operator w t n = record { word = codes w; text = codes t; more = n }

@@ -1,7 +1,8 @@
--- The ref-qualifiers (ABI section 5.1.5.3, <ref-qualifier>) and the mark of an explicit object parameter (ABI section 5.1.2, <nested-name>): word, text.
+-- The ref-qualifiers (ABI section 5.1.5.3, <ref-qualifier>) and the mark of an explicit object parameter (ABI section
+-- 5.1.2, <nested-name>): word, text.
 use Rattle.std.specs.Prelude.{ℕ, List, [], ◌∷◌, codes}
 use Prim.Native.String.{String}
-use Rattle.demangle_vocab.specs.Table.{Entry, words}
+use Rattle.demangle_vocab.specs.WordTable.{Entry, words}
 use Rattle.demangle_vocab.specs.declared.qualifier.RefQualifier.{RefQualifier}
 use Rattle.demangle_vocab.specs.declared.qualifier.RefQualifier.TheVariants.{LValueRef, RValueRef}
 use Rattle.demangle_vocab.specs.declared.qualifier.ExplicitObjectParameter as explicit

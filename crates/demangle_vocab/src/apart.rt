@@ -1,7 +1,7 @@
 //! That the words of a table can be told apart.
 
 ghost use Rattle.std.specs.Prelude.{◌≡◌, true};
-ghost use Rattle.demangle_vocab.specs.Table.{is_prefix_free};
+ghost use Rattle.demangle_vocab.specs.WordTable.{is_prefix_free};
 ghost use Rattle.demangle_vocab.specs.Order.{ReadsEachWord};
 ghost use Rattle.demangle_vocab.specs.Operators.{operator_words};
 ghost use Rattle.demangle_vocab.specs.Builtins.{builtin_words};

@@ -3,7 +3,7 @@
 ghost use Rattle.std.specs.Prelude.{◌≡◌, ◌≤◌, ◌+◌, ℕ, List, ◌∷◌, OnOk, IfOk, length};
 ghost use Rattle.demangle_text.specs.Kind.{Gives};
 ghost use Rattle.demangle_text.specs.Spot.{spot};
-ghost use Rattle.demangle_vocab.specs.Table.{table_from, text_at, word_read, starts_some};
+ghost use Rattle.demangle_vocab.specs.WordTable.{table_from, text_at, word_read, starts_some};
 ghost use Rattle.demangle_vocab.specs.Builtins.{builtins, builtin_words, number_of_builtin};
 
 use demangle_text::{Error, IndexStr, Result};
@@ -126,9 +126,9 @@ pub enum StandardBuiltinType {
 }
 
 impl StandardBuiltinType {
-    /// The builtin type at the front and the rest. Where no word of the table is there, `UnexpectedEnd` exactly where all bytes that
-    /// are left are a proper prefix of a word, as no bytes are, and else `UnexpectedText`.
-    #[tactic(auto, unfolding(crate::specs::Table::table_from))]
+    /// The builtin type at the front and the rest. Where no word of the table is there, `UnexpectedEnd` exactly where
+    /// all bytes that are left are a proper prefix of a word, as no bytes are, and else `UnexpectedText`.
+    #[tactic(auto, unfolding(crate::specs::WordTable::table_from))]
     pub fn read_word<'a>(input: IndexStr<'a>) -> Result<(StandardBuiltinType, IndexStr<'a>)>
         ensures { Gives (λ x. (number_of_builtin x.0, spot x.1)) result (table_from builtin_words (spot input.entry)) }
     {
@@ -137,7 +137,7 @@ impl StandardBuiltinType {
     }
 
     /// The builtin type at the front, and how many bytes its word has.
-    #[tactic(auto, unfolding(crate::specs::Table::word_read))]
+    #[tactic(auto, unfolding(crate::specs::WordTable::word_read))]
     fn at_front(bytes: &[u8]) -> Result<(StandardBuiltinType, usize)>
         ensures word { Gives (λ x. (number_of_builtin x.0, x.1)) result (word_read builtin_words bytes.now) }
         ensures fits { IfOk result (λ x. x.1 ≤ length bytes.now) }
@@ -174,7 +174,7 @@ impl StandardBuiltinType {
     }
 
     /// The builtin type whose word is `D` and what is at the front.
-    #[tactic(auto, unfolding(crate::specs::Table::word_read))]
+    #[tactic(auto, unfolding(crate::specs::WordTable::word_read))]
     fn behind_d(bytes: &[u8]) -> Result<(StandardBuiltinType, usize)>
         ensures word { Gives (λ x. (number_of_builtin x.0, x.1)) result (word_read builtin_words (68 ∷ bytes.now)) }
         ensures fits { IfOk result (λ x. x.1 ≤ length bytes.now + 1) }
@@ -203,9 +203,10 @@ impl StandardBuiltinType {
     }
 
     /// `std::bfloat16_t`, where `16b` is at the front.
-    #[tactic(auto, unfolding(crate::specs::Table::word_read))]
+    #[tactic(auto, unfolding(crate::specs::WordTable::word_read))]
     fn behind_df(bytes: &[u8]) -> Result<(StandardBuiltinType, usize)>
-        ensures word { Gives (λ x. (number_of_builtin x.0, x.1)) result (word_read builtin_words (68 ∷ 70 ∷ bytes.now)) }
+        ensures word { Gives (λ x. (number_of_builtin x.0, x.1)) result (word_read builtin_words
+            (68 ∷ 70 ∷ bytes.now)) }
         ensures fits { IfOk result (λ x. x.1 ≤ length bytes.now + 2) }
     {
         match bytes {
@@ -216,9 +217,10 @@ impl StandardBuiltinType {
     }
 
     /// An `_Accum` type, by the ending of its word at the front.
-    #[tactic(auto, unfolding(crate::specs::Table::word_read))]
+    #[tactic(auto, unfolding(crate::specs::WordTable::word_read))]
     fn behind_da(bytes: &[u8]) -> Result<(StandardBuiltinType, usize)>
-        ensures word { Gives (λ x. (number_of_builtin x.0, x.1)) result (word_read builtin_words (68 ∷ 65 ∷ bytes.now)) }
+        ensures word { Gives (λ x. (number_of_builtin x.0, x.1)) result (word_read builtin_words
+            (68 ∷ 65 ∷ bytes.now)) }
         ensures fits { IfOk result (λ x. x.1 ≤ length bytes.now + 2) }
     {
         let [ending, ..] = bytes else {
@@ -237,9 +239,10 @@ impl StandardBuiltinType {
     }
 
     /// A `_Fract` type, by the ending of its word at the front.
-    #[tactic(auto, unfolding(crate::specs::Table::word_read))]
+    #[tactic(auto, unfolding(crate::specs::WordTable::word_read))]
     fn behind_dr(bytes: &[u8]) -> Result<(StandardBuiltinType, usize)>
-        ensures word { Gives (λ x. (number_of_builtin x.0, x.1)) result (word_read builtin_words (68 ∷ 82 ∷ bytes.now)) }
+        ensures word { Gives (λ x. (number_of_builtin x.0, x.1)) result (word_read builtin_words
+            (68 ∷ 82 ∷ bytes.now)) }
         ensures fits { IfOk result (λ x. x.1 ≤ length bytes.now + 2) }
     {
         let [ending, ..] = bytes else {
@@ -258,9 +261,10 @@ impl StandardBuiltinType {
     }
 
     /// A saturated `_Accum` type, by the ending of its word at the front.
-    #[tactic(auto, unfolding(crate::specs::Table::word_read))]
+    #[tactic(auto, unfolding(crate::specs::WordTable::word_read))]
     fn behind_dsda(bytes: &[u8]) -> Result<(StandardBuiltinType, usize)>
-        ensures word { Gives (λ x. (number_of_builtin x.0, x.1)) result (word_read builtin_words (68 ∷ 83 ∷ 68 ∷ 65 ∷ bytes.now)) }
+        ensures word { Gives (λ x. (number_of_builtin x.0, x.1)) result (word_read builtin_words
+            (68 ∷ 83 ∷ 68 ∷ 65 ∷ bytes.now)) }
         ensures fits { IfOk result (λ x. x.1 ≤ length bytes.now + 4) }
     {
         let [ending, ..] = bytes else {
@@ -279,9 +283,10 @@ impl StandardBuiltinType {
     }
 
     /// A saturated `_Fract` type, by the ending of its word at the front.
-    #[tactic(auto, unfolding(crate::specs::Table::word_read))]
+    #[tactic(auto, unfolding(crate::specs::WordTable::word_read))]
     fn behind_dsdr(bytes: &[u8]) -> Result<(StandardBuiltinType, usize)>
-        ensures word { Gives (λ x. (number_of_builtin x.0, x.1)) result (word_read builtin_words (68 ∷ 83 ∷ 68 ∷ 82 ∷ bytes.now)) }
+        ensures word { Gives (λ x. (number_of_builtin x.0, x.1)) result (word_read builtin_words
+            (68 ∷ 83 ∷ 68 ∷ 82 ∷ bytes.now)) }
         ensures fits { IfOk result (λ x. x.1 ≤ length bytes.now + 4) }
     {
         let [ending, ..] = bytes else {
@@ -300,9 +305,10 @@ impl StandardBuiltinType {
     }
 
     /// A saturated fixed-point type, where `DA` or `DR` and an ending are at the front.
-    #[tactic(auto, unfolding(crate::specs::Table::word_read))]
+    #[tactic(auto, unfolding(crate::specs::WordTable::word_read))]
     fn behind_ds(bytes: &[u8]) -> Result<(StandardBuiltinType, usize)>
-        ensures word { Gives (λ x. (number_of_builtin x.0, x.1)) result (word_read builtin_words (68 ∷ 83 ∷ bytes.now)) }
+        ensures word { Gives (λ x. (number_of_builtin x.0, x.1)) result (word_read builtin_words
+            (68 ∷ 83 ∷ bytes.now)) }
         ensures fits { IfOk result (λ x. x.1 ≤ length bytes.now + 2) }
     {
         match bytes {

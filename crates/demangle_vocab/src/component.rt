@@ -3,7 +3,7 @@
 ghost use Rattle.std.specs.Prelude.{◌≡◌, ◌≤◌, ◌+◌, ℕ, List, ◌∷◌, OnOk, IfOk, length, Some, None, ◌≢◌};
 ghost use Rattle.demangle_text.specs.Kind.{Gives};
 ghost use Rattle.demangle_text.specs.Spot.{spot};
-ghost use Rattle.demangle_vocab.specs.Table.{table_from, text_at, word_read, starts_some, more_at};
+ghost use Rattle.demangle_vocab.specs.WordTable.{table_from, text_at, word_read, starts_some, more_at};
 ghost use Rattle.demangle_vocab.specs.Components.{components, component_words, number_of_component};
 
 use demangle_text::{Error, IndexStr, Result};
@@ -28,11 +28,12 @@ pub enum WellKnownComponent {
 }
 
 impl WellKnownComponent {
-    /// The component at the front and the rest. Where no word of the table is there, `UnexpectedEnd` exactly where all bytes that
-    /// are left are a proper prefix of a word, as no bytes are, and else `UnexpectedText`.
-    #[tactic(auto, unfolding(crate::specs::Table::table_from, crate::specs::Table::word_read))]
+    /// The component at the front and the rest. Where no word of the table is there, `UnexpectedEnd` exactly where all
+    /// bytes that are left are a proper prefix of a word, as no bytes are, and else `UnexpectedText`.
+    #[tactic(auto, unfolding(crate::specs::WordTable::table_from, crate::specs::WordTable::word_read))]
     pub fn read_word<'a>(input: IndexStr<'a>) -> Result<(WellKnownComponent, IndexStr<'a>)>
-        ensures { Gives (λ x. (number_of_component x.0, spot x.1)) result (table_from component_words (spot input.entry)) }
+        ensures { Gives (λ x. (number_of_component x.0, spot x.1)) result (table_from component_words
+            (spot input.entry)) }
     {
         let bytes = input.as_slice();
         let word = match bytes {

@@ -1,5 +1,5 @@
-//! The words of the grammar that stand in tables: operators, builtin types, abbreviated components, ref-qualifiers and the mark of
-//! an explicit object parameter.
+//! The words of the grammar that stand in tables: operators, builtin types, abbreviated components, ref-qualifiers and
+//! the mark of an explicit object parameter.
 #![tactic(auto)]
 
 mod apart;

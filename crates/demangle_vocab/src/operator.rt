@@ -3,8 +3,9 @@
 ghost use Rattle.std.specs.Prelude.{◌≡◌, ◌≤◌, ◌+◌, ℕ, List, ◌∷◌, OnOk, IfOk, length, option_map};
 ghost use Rattle.demangle_text.specs.Kind.{Gives, Unread, kind};
 ghost use Rattle.demangle_text.specs.Spot.{spot};
-ghost use Rattle.demangle_vocab.specs.Table.{table_from, text_at, word_read, starts_some, more_at};
-ghost use Rattle.demangle_vocab.specs.Operators.{operators, operator_words, number_of_operator, operator_of, operator_cut};
+ghost use Rattle.demangle_vocab.specs.WordTable.{table_from, text_at, word_read, starts_some, more_at};
+ghost use Rattle.demangle_vocab.specs.Operators.{operators, operator_words, number_of_operator, operator_of};
+ghost use Rattle.demangle_vocab.specs.Operators.{operator_cut};
 
 use demangle_text::{Error, IndexStr, Result};
 
@@ -110,11 +111,12 @@ pub enum SimpleOperatorName {
 }
 
 impl SimpleOperatorName {
-    /// The operator at the front and the rest. Where no word of the table is there, `UnexpectedEnd` exactly where all bytes that
-    /// are left are a proper prefix of a word, as no bytes are, and else `UnexpectedText`.
-    #[tactic(auto, unfolding(crate::specs::Table::table_from))]
+    /// The operator at the front and the rest. Where no word of the table is there, `UnexpectedEnd` exactly where all
+    /// bytes that are left are a proper prefix of a word, as no bytes are, and else `UnexpectedText`.
+    #[tactic(auto, unfolding(crate::specs::WordTable::table_from))]
     pub fn read_word<'a>(input: IndexStr<'a>) -> Result<(SimpleOperatorName, IndexStr<'a>)>
-        ensures { Gives (λ x. (number_of_operator x.0, spot x.1)) result (table_from operator_words (spot input.entry)) }
+        ensures { Gives (λ x. (number_of_operator x.0, spot x.1)) result (table_from operator_words
+            (spot input.entry)) }
     {
         let word = SimpleOperatorName::at_front(input.as_slice())?;
         Ok((word, input.range_from(2..)))

@@ -1,11 +1,12 @@
-//! The ref-qualifiers (ABI section 5.1.5.3, <ref-qualifier>) and the mark of an explicit object parameter (ABI section 5.1.2,
-//! <nested-name>).
+//! The ref-qualifiers (ABI section 5.1.5.3, <ref-qualifier>) and the mark of an explicit object parameter (ABI section
+//! 5.1.2, <nested-name>).
 
 ghost use Rattle.std.specs.Prelude.{◌≡◌, ◌≤◌, ◌+◌, ℕ, List, ◌∷◌, OnOk, IfOk, length};
 ghost use Rattle.demangle_text.specs.Kind.{Gives};
 ghost use Rattle.demangle_text.specs.Spot.{spot};
-ghost use Rattle.demangle_vocab.specs.Table.{table_from, text_at, word_read, starts_some};
-ghost use Rattle.demangle_vocab.specs.Qualifiers.{ref_qualifiers, ref_qualifier_words, number_of_ref_qualifier, explicit_objects, explicit_object_words, number_of_explicit_object};
+ghost use Rattle.demangle_vocab.specs.WordTable.{table_from, text_at, word_read, starts_some};
+ghost use Rattle.demangle_vocab.specs.Qualifiers.{ref_qualifiers, ref_qualifier_words, number_of_ref_qualifier};
+ghost use Rattle.demangle_vocab.specs.Qualifiers.{explicit_objects, explicit_object_words, number_of_explicit_object};
 
 use demangle_text::{Error, IndexStr, Result};
 
@@ -19,11 +20,12 @@ pub enum RefQualifier {
 }
 
 impl RefQualifier {
-    /// The ref-qualifier at the front and the rest. Where no word of the table is there, `UnexpectedEnd` exactly where all bytes that
-    /// are left are a proper prefix of a word, as no bytes are, and else `UnexpectedText`.
-    #[tactic(auto, unfolding(crate::specs::Table::table_from, crate::specs::Table::word_read))]
+    /// The ref-qualifier at the front and the rest. Where no word of the table is there, `UnexpectedEnd` exactly where
+    /// all bytes that are left are a proper prefix of a word, as no bytes are, and else `UnexpectedText`.
+    #[tactic(auto, unfolding(crate::specs::WordTable::table_from, crate::specs::WordTable::word_read))]
     pub fn read_word<'a>(input: IndexStr<'a>) -> Result<(RefQualifier, IndexStr<'a>)>
-        ensures { Gives (λ x. (number_of_ref_qualifier x.0, spot x.1)) result (table_from ref_qualifier_words (spot input.entry)) }
+        ensures { Gives (λ x. (number_of_ref_qualifier x.0, spot x.1)) result (table_from ref_qualifier_words
+            (spot input.entry)) }
     {
         match input.next_or(Error::UnexpectedEnd)? {
             (b'R', rest) => Ok((RefQualifier::LValueRef, rest)),
@@ -68,11 +70,12 @@ pub enum ExplicitObjectParameter {
 }
 
 impl ExplicitObjectParameter {
-    /// The mark at the front and the rest. Where no word of the table is there, `UnexpectedEnd` exactly where all bytes that
-    /// are left are a proper prefix of a word, as no bytes are, and else `UnexpectedText`.
-    #[tactic(auto, unfolding(crate::specs::Table::table_from, crate::specs::Table::word_read))]
+    /// The mark at the front and the rest. Where no word of the table is there, `UnexpectedEnd` exactly where all bytes
+    /// that are left are a proper prefix of a word, as no bytes are, and else `UnexpectedText`.
+    #[tactic(auto, unfolding(crate::specs::WordTable::table_from, crate::specs::WordTable::word_read))]
     pub fn read_word<'a>(input: IndexStr<'a>) -> Result<(ExplicitObjectParameter, IndexStr<'a>)>
-        ensures { Gives (λ x. (number_of_explicit_object x.0, spot x.1)) result (table_from explicit_object_words (spot input.entry)) }
+        ensures { Gives (λ x. (number_of_explicit_object x.0, spot x.1)) result (table_from explicit_object_words
+            (spot input.entry)) }
     {
         match input.next_or(Error::UnexpectedEnd)? {
             (b'H', rest) => Ok((ExplicitObjectParameter::ExplicitObjectParameter, rest)),

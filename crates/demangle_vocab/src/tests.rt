@@ -59,8 +59,8 @@ const OPERATORS: [(&str, &str, u8); 48] = [
     ("qu", "?:", 3),
 ];
 
-/// The builtin types of the ABI, section 5.1.5.2, that are one word. `DF16b` stands there with `DF`, and the fixed-point types by
-/// their two parts.
+/// The builtin types of the ABI, section 5.1.5.2, that are one word. `DF16b` stands there with `DF`, and the
+/// fixed-point types by their two parts.
 const BUILTIN_TYPES: [(&str, &str); 56] = [
     ("v", "void"),
     ("w", "wchar_t"),

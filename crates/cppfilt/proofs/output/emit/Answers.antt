@@ -1,7 +1,6 @@
-use Rattle.cppfilt.proofs.MoveLaws.{begins-none}
+use Rattle.cppfilt.proofs.MoveLaws.{refusal-none}
 use Rattle.cppfilt.proofs.output.emit.Goals as goal
 
 -- nothing was written
-pub returns-in_err-extend_from_slice-clause-front :
-    goal.returns-in_err-extend_from_slice-clause-front
-returns-in_err-extend_from_slice-clause-front g c = begins-none _ _
+pub returns-in_err-extend_from_slice : goal.returns-in_err-extend_from_slice
+returns-in_err-extend_from_slice g c = refusal-none _ _ _ _ _ c.from_residual.ensures.1

@@ -3,7 +3,7 @@ use Rattle.demangle_vocab.specs.Operators.{operator_words}
 use Rattle.demangle_vocab.specs.Builtins.{builtin_words}
 use Rattle.demangle_vocab.specs.Components.{component_words}
 use Rattle.demangle_vocab.specs.Qualifiers.{ref_qualifier_words, explicit_object_words}
-use Rattle.demangle_vocab.proofs.Found.{reads_each}
+use Rattle.demangle_vocab.proofs.WordsFound.{reads_each}
 use Rattle.demangle_vocab.proofs.apart.the_word_at_the_front_is_read.Goals as goal
 
 pub returns-clause-operators : goal.returns-clause-operators

@@ -1,18 +1,23 @@
+use Rattle.cppfilt.proofs.MoveLaws.{refusal}
 use Rattle.cppfilt.proofs.FilterLaws.{moves-completed, begins-completed}
+use Rattle.cppfilt.proofs.OwedLaws.{kept-closed}
 use Rattle.cppfilt.proofs.lines.LineFilter.complete.Goals as goal
 
-pub returns-in_err-emit_completed-clause-front : goal.returns-in_err-emit_completed-clause-front
-returns-in_err-emit_completed-clause-front g c =
+pub returns-in_err-emit_completed-clause-gives : goal.returns-in_err-emit_completed-clause-gives
+returns-in_err-emit_completed-clause-gives g c more =
     let this = c.args.self.now in
-    begins-completed _ _ this.pending.items this.passing this.held.items c.args.line.now c.requires.free c.requires.ended c.emit_completed.ensures.front
+    let refused = c.in_err-emit_completed.ensures in
+    refusal _ _ _ _ _ _ _ _ c.from_residual.ensures.1
+    (refused.0, begins-completed _ _ this.pending.items this.passing this.held.items c.args.line.now c.requires.free c.requires.ended refused.1 more)
 
-pub returns-clause-all : goal.returns-clause-all
-returns-clause-all g c =
+pub returns-clause-gives : goal.returns-clause-gives
+returns-clause-gives g c more =
     let this = c.args.self.now in
-    rw c.clear.ensures.items
-    (moves-completed _ _ this.pending.items c.emit_completed.new.pending.items this.passing this.held.items c.args.line.now c.requires.free c.requires.ended c.in_ok-emit_completed.ensures.all)
+    let done = c.in_ok-emit_completed.ensures in (
+      done.0,
+      rw c.clear.ensures.items
+          (moves-completed _ _ this.pending.items c.emit_completed.new.pending.items this.passing this.held.items c.args.line.now c.requires.free c.requires.ended done.1 more),
+    )
 
-pub returns-clause-front : goal.returns-clause-front
-returns-clause-front g c =
-    let this = c.args.self.now in
-    begins-completed _ _ this.pending.items this.passing this.held.items c.args.line.now c.requires.free c.requires.ended c.emit_completed.ensures.front
+pub returns-clause-kept : goal.returns-clause-kept
+returns-clause-kept g c seen kept = kept-closed _ seen c.args.line.now c.requires.ended c.clear.ensures.items

@@ -1,25 +1,26 @@
-use Rattle.std.proofs.Common.{◌++◌}
+use Rattle.std.proofs.Common.{◌++◌, [], ◌∙◌}
 use Rattle.cppfilt.specs.Owed.{ahead}
+use Rattle.cppfilt.proofs.MoveLaws.{refusal, cause-then}
 use Rattle.cppfilt.proofs.FilterLaws.{moves-flushed, begins-flushed}
 use Rattle.cppfilt.proofs.lines.LineFilter.take_block.Goals as goal
 
-pub returns-in_err-flush-clause-front : goal.returns-in_err-flush-clause-front
-returns-in_err-flush-clause-front g c =
+pub returns-in_err-flush-clause-gives : goal.returns-in_err-flush-clause-gives
+returns-in_err-flush-clause-gives g c more =
     let this = c.args.self.now in
     let then = c.take_lines.new.self in
-    begins-flushed _ _ _ (λ more. ahead this.pending.items this.passing this.held.items (c.args.block.now ++ more))
-    then.pending.items then.passing then.held.items c.in_ok-take_lines.ensures.all c.flush.ensures.front
+    let taken = c.in_ok-take_lines.ensures.gives in
+    let refused = c.in_err-flush.ensures.gives in
+    refusal _ _ _ _ _ _ _ _ c.from_residual-in_err-flush.ensures.1
+    (cause-then _ _ _ _ (taken []).0 refused.0,
+     begins-flushed _ _ _ (λ more. ahead this.pending.items this.passing this.held.items (c.args.block.now ++ more))
+     then.pending.items then.passing then.held.items (λ more. (taken more).1) refused.1 more)
 
-pub returns-clause-all : goal.returns-clause-all
-returns-clause-all g c =
+pub returns-clause-gives : goal.returns-clause-gives
+returns-clause-gives g c more =
     let this = c.args.self.now in
     let then = c.take_lines.new.self in
-    moves-flushed _ _ _ (λ more. ahead this.pending.items this.passing this.held.items (c.args.block.now ++ more))
-    then.pending.items c.flush.new.pending.items then.passing then.held.items c.in_ok-take_lines.ensures.all c.in_ok-flush.ensures.all c.in_ok-flush.ensures.gathered
-
-pub returns-clause-front : goal.returns-clause-front
-returns-clause-front g c =
-    let this = c.args.self.now in
-    let then = c.take_lines.new.self in
-    begins-flushed _ _ _ (λ more. ahead this.pending.items this.passing this.held.items (c.args.block.now ++ more))
-    then.pending.items then.passing then.held.items c.in_ok-take_lines.ensures.all c.flush.ensures.front
+    let taken = c.in_ok-take_lines.ensures.gives in
+    let done = c.in_ok-flush.ensures.gives in
+    (done.0 ∙ (taken []).0,
+     moves-flushed _ _ _ (λ more. ahead this.pending.items this.passing this.held.items (c.args.block.now ++ more))
+     then.pending.items c.flush.new.pending.items then.passing then.held.items (λ more. (taken more).1) done.1 c.in_ok-flush.ensures.gathered more)

@@ -1,0 +1,4 @@
+pub mod DottedNumbers
+pub mod Answers
+pub mod Hidden
+pub mod NameClass
