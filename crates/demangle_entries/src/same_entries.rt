@@ -1,8 +1,10 @@
 //! Equality of the node types of `entries`: that of their trees.
 
+ghost use Rattle.std.specs.Prelude.{◌≡◌};
 ghost use Rattle.std.specs.Cmp.{on_per, on_equiv, partial_equiv_from_equiv};
 ghost use Rattle.demangle_core.specs.Core.{same};
 ghost use Rattle.demangle_core.specs.Same.{same_equiv};
+ghost use Rattle.demangle_leaf_nodes.specs.TreeLeaves.{tree_of_option, tree_of_ref_qualifier};
 ghost use Rattle.demangle_entries.specs.TreeEntries.{tree_of_decltype, tree_of_prefix, tree_of_array_type};
 ghost use Rattle.demangle_entries.specs.TreeEntries.{tree_of_vector_type, tree_of_class_enum_type};
 ghost use Rattle.demangle_entries.specs.TreeEntries.{tree_of_exception_spec, tree_of_function_type, tree_of_type_node};
@@ -12,7 +14,7 @@ use crate::entries::{
     ArrayType, ClassEnumType, Decltype, ExceptionSpec, FunctionType, Prefix, Substitutable,
     TypeNode, UnresolvedType, VectorType,
 };
-use demangle_leaf_nodes::same_ref_qualifier;
+use demangle_vocab::RefQualifier;
 
 impl PartialEq for Decltype {
     ghost eq = { λ a b. same (tree_of_decltype a) (tree_of_decltype b) };
@@ -199,6 +201,21 @@ impl PartialEq for FunctionType {
                     && (self.extern_c == other.extern_c
                         && (self.bare == other.bare
                             && same_ref_qualifier(&self.ref_qualifier, &other.ref_qualifier)))))
+    }
+}
+
+// Whether two fields hold the same ref-qualifier, or both none.
+#[tactic(auto, using(demangle_leaf_nodes::proofs::Same::rows))]
+fn same_ref_qualifier(one: &Option<RefQualifier>, other: &Option<RefQualifier>) -> bool
+    ensures { result ≡ same (tree_of_option tree_of_ref_qualifier one.now)
+        (tree_of_option tree_of_ref_qualifier other.now) }
+{
+    match one {
+        Some(a) => match other {
+            Some(b) => a.number() == b.number(),
+            None => false,
+        },
+        None => other.is_none(),
     }
 }
 

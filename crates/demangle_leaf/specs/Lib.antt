@@ -1,4 +1,0 @@
-pub mod Context
-pub mod Reads
-pub mod Hidden
-pub mod Letters

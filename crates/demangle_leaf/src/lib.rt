@@ -1,25 +1,12 @@
-//! The readers that need no recursion, and the context that every reader is given.
+//! The context that every reader of a mangled name is given, and the readers that need no recursion.
 #![tactic(auto)]
 
-mod bytes;
-mod context;
-mod depth;
-mod readers;
-mod rows;
+mod substitution;
 
-pub use context::ParseContext;
-pub use depth::{Depth, hidden};
-pub use readers::{
-    read_abi_tag, read_call_offset, read_clone_type_identifier, read_cv_qualifiers,
-    read_discriminator, read_function_param, read_identifier, read_number, read_nv_offset,
-    read_seq_id, read_source_name, read_substitution, read_template_param, read_unnamed_type_name,
-    read_v_offset,
+pub use demangle_leaf_rows::{
+    ParseContext, read_abi_tag, read_abi_tags, read_call_offset, read_clone_suffix,
+    read_clone_type_identifier, read_cv_qualifiers, read_discriminator, read_function_param,
+    read_identifier, read_number, read_nv_offset, read_resource_name, read_seq_id,
+    read_source_name, read_template_param, read_unnamed_type_name, read_v_offset,
 };
-pub use rows::{
-    abi_tag, call_offset, clone_type_identifier, cv_qualifiers, discriminator, function_param,
-    identifier, number, nv_offset, seq_id, source_name, substitution, template_param,
-    unnamed_type_name, v_offset, well_known_component,
-};
-
-#[cfg(test)]
-mod tests;
+pub use substitution::read_substitution;

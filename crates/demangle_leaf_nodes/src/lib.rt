@@ -19,4 +19,3 @@ pub use leaves::{
     TemplateTemplateParamHandle, TypeHandle, UnnamedTypeName, UnqualifiedName,
     UnresolvedTypeHandle, UnscopedName, UnscopedTemplateName, UnscopedTemplateNameHandle, VOffset,
 };
-pub use same_names::same_ref_qualifier;

@@ -197,10 +197,9 @@ impl Eq for NestedName {
     ghost laws = { on_equiv tree_of_nested_name same_equiv };
 }
 
-/// Whether two fields hold the same ref-qualifier, or both none: equality of their trees, which the node types above
-/// need too.
+// Whether two fields hold the same ref-qualifier, or both none.
 #[tactic(auto, using(crate::proofs::Same::rows))]
-pub fn same_ref_qualifier(one: &Option<RefQualifier>, other: &Option<RefQualifier>) -> bool
+fn same_ref_qualifier(one: &Option<RefQualifier>, other: &Option<RefQualifier>) -> bool
     ensures { result ≡ same (tree_of_option tree_of_ref_qualifier one.now)
         (tree_of_option tree_of_ref_qualifier other.now) }
 {

@@ -23,12 +23,15 @@ dotted_number p = number_behind (word_at (codes ".") p)
 
 -- the same as a turn of the row
 abbrev pub number_turn : Here → List Core → Out
-number_turn s acc = read_spot (word_at (codes ".") s.spot) (λ p. read_leaf (natural_from 10 p) (λ v q. Yes (at s q) (acc ++ number (pos v) end ∷ [])))
+number_turn s acc =
+    read_spot (word_at (codes ".") s.spot)
+    (λ p. read_leaf (natural_from 10 p) (λ v q. Yes (at s q) (acc ++ number (pos v) end ∷ [])))
 
 abbrev pub number_tree : ℤ → Core
 number_tree v = number v end
 
 -- as many of them as there are, whatever the table is; want of memory is the one refusal
 abbrev pub AnswersNumbers : IndexStr → Result (Vec ℤ Global × IndexStr) Error → Type 0
-AnswersNumbers input (Ok x) = (table : Table) → all_of number_turn (here (spot input) table) [] ≡ Yes (here (spot x.1) table) (map number_tree x.0.items)
+AnswersNumbers input (Ok x) = (table : Table)
+    → all_of number_turn (here (spot input) table) [] ≡ Yes (here (spot x.1) table) (map number_tree x.0.items)
 AnswersNumbers input (Err e) = e ≡ OutOfMemory

@@ -1,4 +1,5 @@
-pub mod DottedNumbers
 pub mod Answers
+pub mod Context
+pub mod DottedNumbers
 pub mod Hidden
 pub mod NameClass

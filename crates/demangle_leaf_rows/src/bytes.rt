@@ -2,20 +2,20 @@
 
 ghost use Rattle.std.specs.Prelude.{◌≡◌, ◌≤◌, ◌<◌, length, pos, IfOk};
 ghost use Rattle.demangle_text.specs.Kind.{Gives};
+ghost use Rattle.demangle_text.specs.Found.{and_rest};
 ghost use Rattle.demangle_text.specs.Spot.{spot};
 ghost use Rattle.demangle_text.specs.Bytes.{span};
-ghost use Rattle.demangle_core.specs.Core.{end, number, place};
+ghost use Rattle.demangle_core.specs.Core.{end, number};
 ghost use Rattle.demangle_grammar.specs.Rule.{Eat};
-ghost use Rattle.demangle_grammar.specs.Reading.{is_in};
+ghost use Rattle.demangle_grammar.specs.Reading.{is_in, run_found};
 ghost use Rattle.demangle_grammar.specs.Code.{eat_at, taken_word};
-ghost use Rattle.demangle_leaf_rows.specs.NameClass.{class_of};
+ghost use Rattle.demangle_leaf_rows.specs.NameClass.{class_of, name_place};
 
-use demangle_text::{Error, IndexStr, Result, consume};
+use demangle_text::{Error, IndexStr, Result, consume, identifier_len};
 
 /// The names of which every byte is of a class.
 #[derive(Clone, Copy)]
 pub enum NameClass {
-    Identifier,
     CloneType,
     Resource,
 }
@@ -26,12 +26,10 @@ impl NameClass {
         ensures { result ≡ is_in (class_of self) byte }
     {
         match self {
+            NameClass::CloneType => {
+                matches!(byte, b'0'..=b'9' | b'A'..=b'Z' | b'a'..=b'z' | b'$' | b'_')
+            }
             NameClass::Resource => byte != b'$',
-            NameClass::Identifier | NameClass::CloneType => match byte {
-                b'0'..=b'9' | b'A'..=b'Z' | b'a'..=b'z' | b'$' | b'_' => true,
-                b'.' => matches!(self, NameClass::Identifier),
-                _ => false,
-            },
         }
     }
 
@@ -48,22 +46,38 @@ impl NameClass {
         bytes.len()
     }
 
-    /// The index of the first byte of the name at the front, which has one byte at least, and the rest behind the name.
+    /// The index of the first byte of the name at the front, and the rest behind the name.
     #[tactic(auto, unfolding(demangle_grammar::specs::Code::eat_at))]
     pub fn name_at<'b>(self, input: IndexStr<'b>) -> Result<(usize, IndexStr<'b>)>
-        ensures { Gives (λ x. (place x.0 (spot x.1).index end, spot x.1)) result (eat_at (Eat.run (class_of self)) (spot input.entry)) }
+        ensures { Gives name_place result (eat_at (Eat.run (class_of self)) (spot input.entry)) }
     {
         match input.as_slice() {
             [] => Err(Error::UnexpectedEnd),
-            bytes => {
-                let length = self.length_at(bytes);
-                if length == 0 {
-                    return Err(Error::UnexpectedText);
-                }
-                Ok((input.index(), input.range_from(length..)))
-            }
+            bytes => named(self.length_at(bytes), input),
         }
     }
+}
+
+/// The index of the first byte of the identifier at the front, and the rest behind the identifier.
+#[tactic(auto, unfolding(demangle_grammar::specs::Code::eat_at))]
+pub fn identifier_at<'b>(input: IndexStr<'b>) -> Result<(usize, IndexStr<'b>)>
+    ensures { Gives name_place result (eat_at Eat.identifier (spot input.entry)) }
+{
+    match input.as_slice() {
+        [] => Err(Error::UnexpectedEnd),
+        bytes => named(identifier_len(bytes), input),
+    }
+}
+
+/// The index of the first byte of a name of so many bytes, one at least, and the rest behind the name.
+fn named<'b>(count: usize, input: IndexStr<'b>) -> Result<(usize, IndexStr<'b>)>
+    requires { count ≤ length (spot input).left }
+    ensures { let p = spot input.entry in Gives name_place result (and_rest (run_found p.index count) p) }
+{
+    if count == 0 {
+        return Err(Error::UnexpectedText);
+    }
+    Ok((input.index(), input.range_from(count..)))
 }
 
 /// The digit at the front.

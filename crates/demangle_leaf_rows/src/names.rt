@@ -1,11 +1,13 @@
 //! Names, and what stands beside them.
 
-ghost use Rattle.demangle_leaf_nodes.specs.TreeLeaves.{tree_of_identifier, tree_of_clone_type_identifier, tree_of_source_name, tree_of_abi_tag, tree_of_unnamed_type_name, tree_of_resource_name};
+ghost use Rattle.demangle_leaf_nodes.specs.TreeLeaves.{tree_of_identifier, tree_of_clone_type_identifier};
+ghost use Rattle.demangle_leaf_nodes.specs.TreeLeaves.{tree_of_source_name, tree_of_abi_tag};
+ghost use Rattle.demangle_leaf_nodes.specs.TreeLeaves.{tree_of_unnamed_type_name, tree_of_resource_name};
 ghost use Rattle.std.specs.Prelude.{◌≡◌};
 ghost use Rattle.demangle_text.specs.Spot.{spot};
 ghost use Rattle.demangle_grammar.specs.Rule.{Row};
 
-use crate::bytes::NameClass;
+use crate::bytes::{NameClass, identifier_at};
 use crate::depth::Depth;
 use crate::read_leaf::ReadLeaf;
 use demangle_leaf_nodes::{
@@ -21,7 +23,7 @@ impl ReadLeaf for Identifier {
     #[tactic(auto, unfolding(demangle_grammar::specs::Code::cread, demangle_grammar::specs::Rows::rule))]
     fn read_leaf<'b>(depth: Depth, input: IndexStr<'b>) -> Result<(Identifier, IndexStr<'b>)> {
         let _depth = depth.enter()?;
-        let (start, rest) = NameClass::Identifier.name_at(input)?;
+        let (start, rest) = identifier_at(input)?;
         let name = Identifier {
             start,
             end: rest.index(),

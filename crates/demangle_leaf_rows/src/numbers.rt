@@ -3,7 +3,8 @@
 ghost use Rattle.std.specs.Prelude.{◌≡◌, ◌<◌, ◌^◌, IfOk};
 ghost use Rattle.demangle_core.specs.Core.{N};
 ghost use Rattle.demangle_core.specs.Table.{Table, size};
-ghost use Rattle.demangle_leaf_nodes.specs.TreeLeaves.{tree_of_signed, tree_of_seq_id, tree_of_discriminator, tree_of_substitution};
+ghost use Rattle.demangle_leaf_nodes.specs.TreeLeaves.{tree_of_signed, tree_of_seq_id, tree_of_discriminator};
+ghost use Rattle.demangle_leaf_nodes.specs.TreeLeaves.{tree_of_substitution};
 ghost use Rattle.demangle_grammar.specs.Rule.{Row};
 ghost use Rattle.demangle_leaf_rows.specs.Answers.{AnswersLeaf, AnswersRow};
 
@@ -77,7 +78,8 @@ pub fn substitution<'b>(
     components: usize,
     input: IndexStr<'b>,
 ) -> Result<(Substitution, IndexStr<'b>)>
-    ensures { (table : Table) → size N table ≡ components → AnswersRow tree_of_substitution Row.substitution depth.levels depth.conversion input.entry result table }
+    ensures { (table : Table) → size N table ≡ components
+        → AnswersRow tree_of_substitution Row.substitution depth.levels depth.conversion input.entry result table }
 {
     let depth = depth.enter()?;
     if let Some((component, rest)) = hidden(WellKnownComponent::read_leaf(depth, input))? {

@@ -1,6 +1,7 @@
 //! Parameters of templates and functions, and qualifiers.
 
-ghost use Rattle.demangle_leaf_nodes.specs.TreeLeaves.{tree_of_template_param, tree_of_function_param, tree_of_cv_qualifiers};
+ghost use Rattle.demangle_leaf_nodes.specs.TreeLeaves.{tree_of_template_param, tree_of_function_param};
+ghost use Rattle.demangle_leaf_nodes.specs.TreeLeaves.{tree_of_cv_qualifiers};
 ghost use Rattle.demangle_grammar.specs.Rule.{Row};
 
 use crate::bytes::optional_word;

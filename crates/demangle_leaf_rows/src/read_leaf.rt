@@ -15,7 +15,7 @@ pub trait ReadLeaf: Sized {
     /// The plain tree of a node.
     ghost leaf_tree: { Self → Core };
 
-    /// The node at the front of the input and the rest behind it. Each refusal is the row's, and the row counts one level.
+    /// The node at the front of the input and the rest behind it. Each refusal is the row's.
     fn read_leaf<'b>(depth: Depth, input: IndexStr<'b>) -> Result<(Self, IndexStr<'b>)>
         ensures { AnswersLeaf leaf_tree leaf_row depth.levels depth.conversion input.entry result };
 }

@@ -1,6 +1,8 @@
 //! The rows of one word of a table.
 
-ghost use Rattle.demangle_leaf_nodes.specs.TreeLeaves.{tree_of_well_known_component, tree_of_simple_operator_name, tree_of_standard_builtin_type, tree_of_ref_qualifier, tree_of_explicit_object_parameter};
+ghost use Rattle.demangle_leaf_nodes.specs.TreeLeaves.{tree_of_well_known_component, tree_of_simple_operator_name};
+ghost use Rattle.demangle_leaf_nodes.specs.TreeLeaves.{tree_of_standard_builtin_type, tree_of_ref_qualifier};
+ghost use Rattle.demangle_leaf_nodes.specs.TreeLeaves.{tree_of_explicit_object_parameter};
 ghost use Rattle.demangle_grammar.specs.Rule.{Row};
 
 use crate::depth::Depth;
