@@ -40,9 +40,7 @@ def main():
         print("not as expected:", json.dumps(line, ensure_ascii=False))
     choice.ENOUGH = FIRST
     search = choice.Search(subject, given.processes)
-    if given.action == "choose":
-        edits.choose(subject, search)
-    left = edits.check(subject, search, given.report)
+    left = edits.run(subject, search, given.action, given.report)
     sys.exit(1 if left or subject.wrong else 0)
 
 

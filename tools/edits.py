@@ -64,6 +64,12 @@ def check(noticed, subject, report):
     return table["all"]["others"]
 
 
+def run(subject, search, action, report):
+    """How many edits are noticed by inputs that aren't committed alone."""
+    first = choose(subject, search) if action == "choose" else None
+    return check(noticing(subject, search, first), subject, report)
+
+
 def main():
     parser = argparse.ArgumentParser(description=__doc__.split("\n")[0])
     parser.add_argument("action", choices=("choose", "check"))
@@ -77,11 +83,10 @@ def main():
     for line in subject.wrong:
         print("not as expected:", json.dumps(line, ensure_ascii=False))
     search = choice.Search(subject, given.processes)
-    first = choose(subject, search) if given.action == "choose" else None
+    left = run(subject, search, given.action, given.report)
     stale = subject.stale()
     for case in stale:
         print("not what the rows read:", *case.input)
-    left = check(noticing(subject, search, first), subject, given.report)
     sys.exit(1 if left or stale or subject.wrong else 0)
 
 
