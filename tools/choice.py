@@ -1,8 +1,8 @@
 """Chooses few readings of many that notice all edits of the data which any of them notices.
 
-A subject has `edits`; `candidates(edit)`, the numbers of the readings that may notice it, those to be preferred first;
-`edited(edit)`, a context in which it is made; `differs(k)`, whether reading k is another there, or None where that wasn't
-seen in the time that is of use; and `cost(k)`.
+A subject has `edits`; `candidates(edit)`, the numbers of the readings that may notice it, those to be preferred
+first; `edited(edit)`, a context in which it is made; `differs(k)`, whether reading k is another there, or None where
+that wasn't seen in the time that is of use; and `cost(k)`.
 """
 import collections
 import multiprocessing

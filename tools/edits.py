@@ -4,18 +4,19 @@
     tools/edits.py choose READINGS NAMES [--processes N] [--report FILE]
     tools/edits.py check READINGS NAMES [--processes N] [--report FILE]
 
-READINGS are expected readings of rows (cases.py), NAMES outcomes of whole names, both made elsewhere, each a file of JSON
-lines, .xz or plain. A name's line has `name`, `parse` (a limit of levels), the options of printing, and `outcome`:
-["Text", text], ["Print", fault] or ["Read", fault]. What they expect of a reading is compared with what the rows read.
+READINGS are expected readings of rows (cases.py), NAMES outcomes of whole names, both made elsewhere, each a file of
+JSON lines, .xz or plain. A name's line has `name`, `parse` (a limit of levels), the options of printing, and
+`outcome`: ["Text", text], ["Print", fault] or ["Read", fault]. What they expect of a reading is compared with what
+the rows read.
 
-Every single edit of Rows.antt and of its notation in Items.antt is made (row_edits.py), and the edited rows are run on each
-input that reaches the edited place. An input notices an edit where the answer, an entry or the deepest level is another
-one. Whatever else is expected of an input, a printed text or an answer under a limit, follows from these.
+Every single edit of Rows.antt and of its notation in Items.antt is made (row_edits.py), and the edited rows are run
+on each input that reaches the edited place. An input notices an edit where the answer, an entry or the deepest level
+is another one. Whatever else is expected of an input, a printed text or an answer under a limit, follows from these.
 
-`choose` writes tools/readings/rows.jsonl.xz: few readings which with those of by-hand.jsonl notice every edit that any
-input notices, each of them twice where two inputs do. It begins with those that stand there, and tries all inputs for an
-edit that these don't notice twice. `check` tells which edits these files notice, and which others an input does; there
-are to be none. Both print a table by kind of edit; the report has a line an edit.
+`choose` writes tools/readings/rows.jsonl.xz: few readings which with those of by-hand.jsonl notice every edit that
+any input notices, each of them twice where two inputs do. It begins with those that stand there, and tries all
+inputs for an edit that these don't notice twice. `check` tells which edits these files notice, and which others an
+input does; there are to be none. Both print a table by kind of edit; the report has a line an edit.
 
 An expected reading tells how many entries there are; what they hold is what the rows say now.
 """

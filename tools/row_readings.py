@@ -91,7 +91,7 @@ class RowReadings:
 
     def stale(self):
         """The committed cases that aren't what the rows read."""
-        return [case for case in self.committed() if (case.answer, case.entries, case.reach) != self.base[case.input][:3]]
+        return [case for case in self.committed() if case[3:] != self.base[case.input][:3]]
 
     def numbers_of(self, found):
         return {self.numbers[case.input] for case in found}

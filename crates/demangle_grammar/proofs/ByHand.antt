@@ -1,5 +1,5 @@
 -- Readings that were written out by hand. Written by tools/write_readings.py.
-use Rattle.std.specs.Prelude.{true, false, [], ◌∷◌, codes, pos}
+use Rattle.std.specs.Prelude.{true, false, [], ◌∷◌, codes, pos, negsuc}
 use Rattle.std.proofs.Common.{refl}
 use Rattle.demangle_text.specs.Kind.{End, Text, Bad, Over}
 use Rattle.demangle_core.specs.Core.{Tag, N, U, end, node, place, number, flag, chosen, ref, mark}
@@ -304,3 +304,71 @@ unresolved_type_handle_3 = by_measure refl
 unscoped_template_name_handle_1 : Reads Row.unscoped_template_name_handle false (codes "1a") (Read 2 (node Tag.BackReference (ref N 0 end) end) (entry N (node Tag.SubstitutableUnscopedTemplateName (node Tag.UnscopedTemplateName (node Tag.UnscopedNameUnqualified (node Tag.UnqualifiedNameSource (node Tag.SourceName (node Tag.Identifier (place 1 2 end) end) (node Tag.AbiTags (node Tag.Several end end) end)) end) end) end) end) ∷ [])) 5
 unfolding measure_from run_rule rule entry_at
 unscoped_template_name_handle_1 = by_measure refl
+
+subobject_expr_1 : Reads Row.subobject_expr false (codes "iT_n3E") (Read 6 (node Tag.SubobjectExpr (node Tag.TypeHandleBuiltin (node Tag.BuiltinTypeStandard (chosen 1 8 end) end) (node Tag.ExpressionTemplateParam (node Tag.TemplateParam (number (pos 0) end) end) (number (negsuc 2) end))) end) []) 4
+unfolding measure_from run_rule rule entry_at
+subobject_expr_1 = by_measure refl
+
+mangled_name_8 : Reads Row.mangled_name false (codes "____Z1f_block_invoke") (Read 20 (node Tag.MangledNameBlockInvoke (node Tag.EncodingData (node Tag.NameUnscoped (node Tag.UnscopedNameUnqualified (node Tag.UnqualifiedNameSource (node Tag.SourceName (node Tag.Identifier (place 6 7 end) end) (node Tag.AbiTags (node Tag.Several end end) end)) end) end) end) (node Tag.Absent end end)) end) []) 11
+unfolding measure_from run_rule rule entry_at
+mangled_name_8 = by_measure refl
+
+prefix_handle_11 : Reads Row.prefix_handle false (codes "T_E") (Read 2 (node Tag.NonSubstitution (ref U 0 end) end) (entry U (node Tag.SubstitutablePrefix (node Tag.PrefixTemplateParam (node Tag.TemplateParam (number (pos 0) end) end) end) end) ∷ [])) 3
+unfolding measure_from run_rule rule entry_at
+prefix_handle_11 = by_measure refl
+
+prefix_handle_12 : Reads Row.prefix_handle false (codes "DtT_EE") (Read 5 (node Tag.NonSubstitution (ref U 0 end) end) (entry U (node Tag.SubstitutablePrefix (node Tag.PrefixDecltype (node Tag.DecltypeIdExpression (node Tag.ExpressionTemplateParam (node Tag.TemplateParam (number (pos 0) end) end) end) end) end) end) ∷ [])) 5
+unfolding measure_from run_rule rule entry_at
+prefix_handle_12 = by_measure refl
+
+type_handle_20 : Reads Row.type_handle false (codes "KDxFvvE") (Read 7 (node Tag.BackReference (ref N 0 end) end) (entry N (node Tag.SubstitutableTypeNode (node Tag.TypeNodeFunction (node Tag.FunctionType (node Tag.CvQualifiers (flag false (flag false (flag true end))) (node Tag.Absent end (flag true (flag false (node Tag.BareFunctionType (node Tag.Several (node Tag.TypeHandleBuiltin (node Tag.BuiltinTypeStandard (chosen 1 0 end) end) (node Tag.TypeHandleBuiltin (node Tag.BuiltinTypeStandard (chosen 1 0 end) end) end)) end) (node Tag.Absent end end)))))) end) end) end) ∷ [])) 11
+unfolding measure_from run_rule rule entry_at
+type_handle_20 = by_measure refl
+
+type_handle_21 : Reads Row.type_handle false (codes "KDOT_EFvvE") (Read 10 (node Tag.BackReference (ref N 0 end) end) (entry N (node Tag.SubstitutableTypeNode (node Tag.TypeNodeFunction (node Tag.FunctionType (node Tag.CvQualifiers (flag false (flag false (flag true end))) (node Tag.Present (node Tag.ExceptionSpecComputed (node Tag.ExpressionTemplateParam (node Tag.TemplateParam (number (pos 0) end) end) end) end) (flag false (flag false (node Tag.BareFunctionType (node Tag.Several (node Tag.TypeHandleBuiltin (node Tag.BuiltinTypeStandard (chosen 1 0 end) end) (node Tag.TypeHandleBuiltin (node Tag.BuiltinTypeStandard (chosen 1 0 end) end) end)) end) (node Tag.Absent end end)))))) end) end) end) ∷ [])) 11
+unfolding measure_from run_rule rule entry_at
+type_handle_21 = by_measure refl
+
+array_type_1 : Reads Row.array_type false (codes "An3_i") (Refused Text) 6
+unfolding measure_from run_rule rule entry_at
+array_type_1 = by_measure refl
+
+template_param_1 : Reads Row.template_param false (codes "Tn1_") (Refused Text) 1
+unfolding measure_from run_rule rule entry_at
+template_param_1 = by_measure refl
+
+unresolved_name_1 : Reads Row.unresolved_name false (codes "srE1a") (Refused Text) 4
+unfolding measure_from run_rule rule entry_at
+unresolved_name_1 = by_measure refl
+
+unresolved_name_2 : Reads Row.unresolved_name false (codes "gssrE1a") (Refused Text) 4
+unfolding measure_from run_rule rule entry_at
+unresolved_name_2 = by_measure refl
+
+template_arg_1 : Reads Row.template_arg false (codes "JS5_E") (Refused Text) 10
+unfolding measure_from run_rule rule entry_at
+template_arg_1 = by_measure refl
+
+ctor_dtor_name_1 : Reads Row.ctor_dtor_name false (codes "CI3") (Refused End) 9
+unfolding measure_from run_rule rule entry_at
+ctor_dtor_name_1 = by_measure refl
+
+expression_12 : Reads Row.expression false (codes "pp_") (Refused End) 6
+unfolding measure_from run_rule rule entry_at
+expression_12 = by_measure refl
+
+builtin_type_1 : Reads Row.builtin_type false (codes "u") (Refused End) 2
+unfolding measure_from run_rule rule entry_at
+builtin_type_1 = by_measure refl
+
+expression_13 : Reads Row.expression false (codes "mm_") (Refused End) 6
+unfolding measure_from run_rule rule entry_at
+expression_13 = by_measure refl
+
+ctor_dtor_name_2 : Reads Row.ctor_dtor_name false (codes "CI1") (Refused End) 9
+unfolding measure_from run_rule rule entry_at
+ctor_dtor_name_2 = by_measure refl
+
+ctor_dtor_name_3 : Reads Row.ctor_dtor_name false (codes "CI2") (Refused End) 9
+unfolding measure_from run_rule rule entry_at
+ctor_dtor_name_3 = by_measure refl

@@ -26,6 +26,7 @@ pub mod ReadRows2
 pub mod ReadRows3
 pub mod ReadRows4
 pub mod ReadRows5
+pub mod ReadRows6
 pub mod ByHand
 pub mod Expands
 pub mod SayTheSame

@@ -10,242 +10,362 @@ use Rattle.demangle_grammar.specs.Rows.{rule}
 use Rattle.demangle_grammar.specs.Reading.{run_rule, measure_from}
 use Rattle.demangle_grammar.proofs.Conforms.{Read, Refused, Reads, by_measure, entry}
 
-template_args_1 : Reads Row.template_args false (codes "IJ_E") (Refused Text) 11
+prefix_handle_1 : Reads Row.prefix_handle false (codes "1DD1") (Read 4 (node Tag.BackReference (ref N 1 end) end) (entry N (node Tag.SubstitutablePrefix (node Tag.PrefixUnqualified (node Tag.UnqualifiedNameSource (node Tag.SourceName (node Tag.Identifier (place 1 2 end) end) (node Tag.AbiTags (node Tag.Several end end) end)) end) end) end) ∷ entry N (node Tag.SubstitutablePrefix (node Tag.PrefixNested (node Tag.BackReference (ref N 0 end) (node Tag.UnqualifiedNameCtorDtor (node Tag.CtorDtorNameCompleteDestructor end (node Tag.AbiTags (node Tag.Several end end) end)) end)) end) end) ∷ [])) 5
+unfolding measure_from run_rule rule entry_at
+prefix_handle_1 = by_measure refl
+
+prefix_handle_2 : Reads Row.prefix_handle false (codes "StD1") (Read 4 (node Tag.BackReference (ref N 0 end) end) (entry N (node Tag.SubstitutablePrefix (node Tag.PrefixNested (node Tag.WellKnown (chosen 2 0 end) (node Tag.UnqualifiedNameCtorDtor (node Tag.CtorDtorNameCompleteDestructor end (node Tag.AbiTags (node Tag.Several end end) end)) end)) end) end) ∷ [])) 5
+unfolding measure_from run_rule rule entry_at
+prefix_handle_2 = by_measure refl
+
+prefix_handle_3 : Reads Row.prefix_handle false (codes "3FoTT") (Refused End) 5
+unfolding measure_from run_rule rule entry_at
+prefix_handle_3 = by_measure refl
+
+prefix_handle_4 : Reads Row.prefix_handle false (codes "S0__d") (Refused Bad) 4
+unfolding measure_from run_rule rule entry_at
+prefix_handle_4 = by_measure refl
+
+prefix_handle_5 : Reads Row.prefix_handle false (codes "1Adl1a") (Read 6 (node Tag.BackReference (ref N 2 end) end) (entry N (node Tag.SubstitutablePrefix (node Tag.PrefixUnqualified (node Tag.UnqualifiedNameSource (node Tag.SourceName (node Tag.Identifier (place 1 2 end) end) (node Tag.AbiTags (node Tag.Several end end) end)) end) end) end) ∷ entry N (node Tag.SubstitutablePrefix (node Tag.PrefixNested (node Tag.BackReference (ref N 0 end) (node Tag.UnqualifiedNameOperator (node Tag.OperatorNameSimple (chosen 0 2 end) (node Tag.AbiTags (node Tag.Several end end) end)) end)) end) end) ∷ entry N (node Tag.SubstitutablePrefix (node Tag.PrefixNested (node Tag.BackReference (ref N 1 end) (node Tag.UnqualifiedNameSource (node Tag.SourceName (node Tag.Identifier (place 5 6 end) end) (node Tag.AbiTags (node Tag.Several end end) end)) end)) end) end) ∷ [])) 5
+unfolding measure_from run_rule rule entry_at
+prefix_handle_5 = by_measure refl
+
+prefix_handle_6 : Reads Row.prefix_handle false (codes "3Fo_ss") (Read 6 (node Tag.BackReference (ref N 1 end) end) (entry N (node Tag.SubstitutablePrefix (node Tag.PrefixUnqualified (node Tag.UnqualifiedNameSource (node Tag.SourceName (node Tag.Identifier (place 1 4 end) end) (node Tag.AbiTags (node Tag.Several end end) end)) end) end) end) ∷ entry N (node Tag.SubstitutablePrefix (node Tag.PrefixNested (node Tag.BackReference (ref N 0 end) (node Tag.UnqualifiedNameOperator (node Tag.OperatorNameSimple (chosen 0 47 end) (node Tag.AbiTags (node Tag.Several end end) end)) end)) end) end) ∷ [])) 5
+unfolding measure_from run_rule rule entry_at
+prefix_handle_6 = by_measure refl
+
+prefix_handle_7 : Reads Row.prefix_handle false (codes "Stpl1a") (Read 6 (node Tag.BackReference (ref N 1 end) end) (entry N (node Tag.SubstitutablePrefix (node Tag.PrefixNested (node Tag.WellKnown (chosen 2 0 end) (node Tag.UnqualifiedNameOperator (node Tag.OperatorNameSimple (chosen 0 9 end) (node Tag.AbiTags (node Tag.Several end end) end)) end)) end) end) ∷ entry N (node Tag.SubstitutablePrefix (node Tag.PrefixNested (node Tag.BackReference (ref N 0 end) (node Tag.UnqualifiedNameSource (node Tag.SourceName (node Tag.Identifier (place 5 6 end) end) (node Tag.AbiTags (node Tag.Several end end) end)) end)) end) end) ∷ [])) 5
+unfolding measure_from run_rule rule entry_at
+prefix_handle_7 = by_measure refl
+
+prefix_handle_8 : Reads Row.prefix_handle false (codes "UlvE_D") (Refused End) 5
+unfolding measure_from run_rule rule entry_at
+prefix_handle_8 = by_measure refl
+
+prefix_handle_9 : Reads Row.prefix_handle false (codes "1C1fIiE") (Read 7 (node Tag.BackReference (ref N 2 end) end) (entry N (node Tag.SubstitutablePrefix (node Tag.PrefixUnqualified (node Tag.UnqualifiedNameSource (node Tag.SourceName (node Tag.Identifier (place 1 2 end) end) (node Tag.AbiTags (node Tag.Several end end) end)) end) end) end) ∷ entry N (node Tag.SubstitutablePrefix (node Tag.PrefixNested (node Tag.BackReference (ref N 0 end) (node Tag.UnqualifiedNameSource (node Tag.SourceName (node Tag.Identifier (place 3 4 end) end) (node Tag.AbiTags (node Tag.Several end end) end)) end)) end) end) ∷ entry N (node Tag.SubstitutablePrefix (node Tag.PrefixTemplate (node Tag.BackReference (ref N 1 end) (node Tag.TemplateArgs (mark 4 (node Tag.Several (node Tag.TemplateArgTypeArg (node Tag.TypeHandleBuiltin (node Tag.BuiltinTypeStandard (chosen 1 8 end) end) end) end) end)) end)) end) end) ∷ [])) 12
+unfolding measure_from run_rule rule entry_at
+prefix_handle_9 = by_measure refl
+
+prefix_handle_10 : Reads Row.prefix_handle false (codes "1_CI11b") (Read 7 (node Tag.BackReference (ref N 2 end) end) (entry N (node Tag.SubstitutablePrefix (node Tag.PrefixUnqualified (node Tag.UnqualifiedNameSource (node Tag.SourceName (node Tag.Identifier (place 1 2 end) end) (node Tag.AbiTags (node Tag.Several end end) end)) end) end) end) ∷ entry N (node Tag.SubstitutableTypeNode (node Tag.TypeNodeClassEnum (node Tag.ClassEnumTypeNamed (node Tag.NameUnscoped (node Tag.UnscopedNameUnqualified (node Tag.UnqualifiedNameSource (node Tag.SourceName (node Tag.Identifier (place 6 7 end) end) (node Tag.AbiTags (node Tag.Several end end) end)) end) end) end) end) end) end) ∷ entry N (node Tag.SubstitutablePrefix (node Tag.PrefixNested (node Tag.BackReference (ref N 0 end) (node Tag.UnqualifiedNameCtorDtor (node Tag.CtorDtorNameCompleteConstructor (node Tag.Present (node Tag.BackReference (ref N 1 end) end) end) (node Tag.AbiTags (node Tag.Several end end) end)) end)) end) end) ∷ [])) 11
+unfolding measure_from run_rule rule entry_at
+prefix_handle_10 = by_measure refl
+
+prefix_handle_11 : Reads Row.prefix_handle false (codes "3FoossE") (Read 6 (node Tag.NonSubstitution (ref U 0 end) end) (entry N (node Tag.SubstitutablePrefix (node Tag.PrefixUnqualified (node Tag.UnqualifiedNameSource (node Tag.SourceName (node Tag.Identifier (place 1 4 end) end) (node Tag.AbiTags (node Tag.Several end end) end)) end) end) end) ∷ entry U (node Tag.SubstitutablePrefix (node Tag.PrefixNested (node Tag.BackReference (ref N 0 end) (node Tag.UnqualifiedNameOperator (node Tag.OperatorNameSimple (chosen 0 47 end) (node Tag.AbiTags (node Tag.Several end end) end)) end)) end) end) ∷ [])) 5
+unfolding measure_from run_rule rule entry_at
+prefix_handle_11 = by_measure refl
+
+prefix_handle_12 : Reads Row.prefix_handle false (codes "1S3$_1clE") (Read 8 (node Tag.NonSubstitution (ref U 0 end) end) (entry N (node Tag.SubstitutablePrefix (node Tag.PrefixUnqualified (node Tag.UnqualifiedNameSource (node Tag.SourceName (node Tag.Identifier (place 1 2 end) end) (node Tag.AbiTags (node Tag.Several end end) end)) end) end) end) ∷ entry N (node Tag.SubstitutablePrefix (node Tag.PrefixNested (node Tag.BackReference (ref N 0 end) (node Tag.UnqualifiedNameSource (node Tag.SourceName (node Tag.Identifier (place 3 6 end) end) (node Tag.AbiTags (node Tag.Several end end) end)) end)) end) end) ∷ entry U (node Tag.SubstitutablePrefix (node Tag.PrefixNested (node Tag.BackReference (ref N 1 end) (node Tag.UnqualifiedNameOperator (node Tag.OperatorNameSimple (chosen 0 44 end) (node Tag.AbiTags (node Tag.Several end end) end)) end)) end) end) ∷ [])) 5
+unfolding measure_from run_rule rule entry_at
+prefix_handle_12 = by_measure refl
+
+prefix_handle_13 : Reads Row.prefix_handle false (codes "1_1S0_IiE") (Refused Text) 5
+unfolding measure_from run_rule rule entry_at
+prefix_handle_13 = by_measure refl
+
+prefix_handle_14 : Reads Row.prefix_handle false (codes "1aUlvE_B1") (Read 7 (node Tag.BackReference (ref N 1 end) end) (entry N (node Tag.SubstitutablePrefix (node Tag.PrefixUnqualified (node Tag.UnqualifiedNameSource (node Tag.SourceName (node Tag.Identifier (place 1 2 end) end) (node Tag.AbiTags (node Tag.Several end end) end)) end) end) end) ∷ entry N (node Tag.SubstitutablePrefix (node Tag.PrefixNested (node Tag.BackReference (ref N 0 end) (node Tag.UnqualifiedNameClosureType (node Tag.ClosureTypeName (node Tag.LambdaSig (node Tag.Several end end) (node Tag.Absent end end)) (node Tag.AbiTags (node Tag.Several end end) end)) end)) end) end) ∷ [])) 6
+unfolding measure_from run_rule rule entry_at
+prefix_handle_14 = by_measure refl
+
+prefix_handle_15 : Reads Row.prefix_handle false (codes "1B2L3MUlT_") (Refused Text) 13
+unfolding measure_from run_rule rule entry_at
+prefix_handle_15 = by_measure refl
+
+prefix_handle_16 : Reads Row.prefix_handle false (codes "1CcvT_T_Ii") (Refused End) 12
+unfolding measure_from run_rule rule entry_at
+prefix_handle_16 = by_measure refl
+
+prefix_handle_17 : Reads Row.prefix_handle false (codes "1S3$_1cl1a") (Read 10 (node Tag.BackReference (ref N 3 end) end) (entry N (node Tag.SubstitutablePrefix (node Tag.PrefixUnqualified (node Tag.UnqualifiedNameSource (node Tag.SourceName (node Tag.Identifier (place 1 2 end) end) (node Tag.AbiTags (node Tag.Several end end) end)) end) end) end) ∷ entry N (node Tag.SubstitutablePrefix (node Tag.PrefixNested (node Tag.BackReference (ref N 0 end) (node Tag.UnqualifiedNameSource (node Tag.SourceName (node Tag.Identifier (place 3 6 end) end) (node Tag.AbiTags (node Tag.Several end end) end)) end)) end) end) ∷ entry N (node Tag.SubstitutablePrefix (node Tag.PrefixNested (node Tag.BackReference (ref N 1 end) (node Tag.UnqualifiedNameOperator (node Tag.OperatorNameSimple (chosen 0 44 end) (node Tag.AbiTags (node Tag.Several end end) end)) end)) end) end) ∷ entry N (node Tag.SubstitutablePrefix (node Tag.PrefixNested (node Tag.BackReference (ref N 2 end) (node Tag.UnqualifiedNameSource (node Tag.SourceName (node Tag.Identifier (place 9 10 end) end) (node Tag.AbiTags (node Tag.Several end end) end)) end)) end) end) ∷ [])) 5
+unfolding measure_from run_rule rule entry_at
+prefix_handle_17 = by_measure refl
+
+prefix_handle_18 : Reads Row.prefix_handle false (codes "T0_3baz1XE") (Read 9 (node Tag.NonSubstitution (ref U 0 end) end) (entry N (node Tag.SubstitutablePrefix (node Tag.PrefixTemplateParam (node Tag.TemplateParam (number (pos 1) end) end) end) end) ∷ entry N (node Tag.SubstitutablePrefix (node Tag.PrefixNested (node Tag.BackReference (ref N 0 end) (node Tag.UnqualifiedNameSource (node Tag.SourceName (node Tag.Identifier (place 4 7 end) end) (node Tag.AbiTags (node Tag.Several end end) end)) end)) end) end) ∷ entry U (node Tag.SubstitutablePrefix (node Tag.PrefixNested (node Tag.BackReference (ref N 1 end) (node Tag.UnqualifiedNameSource (node Tag.SourceName (node Tag.Identifier (place 8 9 end) end) (node Tag.AbiTags (node Tag.Several end end) end)) end)) end) end) ∷ [])) 5
+unfolding measure_from run_rule rule entry_at
+prefix_handle_18 = by_measure refl
+
+prefix_handle_19 : Reads Row.prefix_handle false (codes "4gvarMUlvE_") (Read 11 (node Tag.BackReference (ref N 1 end) end) (entry N (node Tag.SubstitutablePrefix (node Tag.PrefixUnqualified (node Tag.UnqualifiedNameSource (node Tag.SourceName (node Tag.Identifier (place 1 5 end) end) (node Tag.AbiTags (node Tag.Several end end) end)) end) end) end) ∷ entry N (node Tag.SubstitutablePrefix (node Tag.PrefixNested (node Tag.BackReference (ref N 0 end) (node Tag.UnqualifiedNameClosureType (node Tag.ClosureTypeName (node Tag.LambdaSig (node Tag.Several end end) (node Tag.Absent end end)) (node Tag.AbiTags (node Tag.Several end end) end)) end)) end) end) ∷ [])) 5
+unfolding measure_from run_rule rule entry_at
+prefix_handle_19 = by_measure refl
+
+prefix_handle_20 : Reads Row.prefix_handle false (codes "1AIDv4_fE1t1a") (Read 13 (node Tag.BackReference (ref N 4 end) end) (entry N (node Tag.SubstitutablePrefix (node Tag.PrefixUnqualified (node Tag.UnqualifiedNameSource (node Tag.SourceName (node Tag.Identifier (place 1 2 end) end) (node Tag.AbiTags (node Tag.Several end end) end)) end) end) end) ∷ entry N (node Tag.SubstitutableTypeNode (node Tag.TypeNodeVector (node Tag.VectorTypeDimensionNumber (number (pos 4) (node Tag.TypeHandleBuiltin (node Tag.BuiltinTypeStandard (chosen 1 16 end) end) end)) end) end) end) ∷ entry N (node Tag.SubstitutablePrefix (node Tag.PrefixTemplate (node Tag.BackReference (ref N 0 end) (node Tag.TemplateArgs (mark 2 (node Tag.Several (node Tag.TemplateArgTypeArg (node Tag.BackReference (ref N 1 end) end) end) end)) end)) end) end) ∷ entry N (node Tag.SubstitutablePrefix (node Tag.PrefixNested (node Tag.BackReference (ref N 2 end) (node Tag.UnqualifiedNameSource (node Tag.SourceName (node Tag.Identifier (place 10 11 end) end) (node Tag.AbiTags (node Tag.Several end end) end)) end)) end) end) ∷ entry N (node Tag.SubstitutablePrefix (node Tag.PrefixNested (node Tag.BackReference (ref N 3 end) (node Tag.UnqualifiedNameSource (node Tag.SourceName (node Tag.Identifier (place 12 13 end) end) (node Tag.AbiTags (node Tag.Several end end) end)) end)) end) end) ∷ [])) 12
+unfolding measure_from run_rule rule entry_at
+prefix_handle_20 = by_measure refl
+
+prefix_handle_21 : Reads Row.prefix_handle false (codes "7myspaceL3foo_") (Read 13 (node Tag.BackReference (ref N 1 end) end) (entry N (node Tag.SubstitutablePrefix (node Tag.PrefixUnqualified (node Tag.UnqualifiedNameSource (node Tag.SourceName (node Tag.Identifier (place 1 8 end) end) (node Tag.AbiTags (node Tag.Several end end) end)) end) end) end) ∷ entry N (node Tag.SubstitutablePrefix (node Tag.PrefixNested (node Tag.BackReference (ref N 0 end) (node Tag.UnqualifiedNameLocalSourceName (node Tag.SourceName (node Tag.Identifier (place 10 13 end) end) (node Tag.Absent end (node Tag.AbiTags (node Tag.Several end end) end))) end)) end) end) ∷ [])) 5
+unfolding measure_from run_rule rule entry_at
+prefix_handle_21 = by_measure refl
+
+prefix_handle_22 : Reads Row.prefix_handle false (codes "5te1S3$_1clEt71gE") (Read 6 (node Tag.BackReference (ref N 0 end) end) (entry N (node Tag.SubstitutablePrefix (node Tag.PrefixUnqualified (node Tag.UnqualifiedNameSource (node Tag.SourceName (node Tag.Identifier (place 1 6 end) end) (node Tag.AbiTags (node Tag.Several end end) end)) end) end) end) ∷ [])) 5
+unfolding measure_from run_rule rule entry_at
+prefix_handle_22 = by_measure refl
+
+resource_name_1 : Reads Row.resource_name false (codes ".") (Read 1 (node Tag.ResourceName (place 0 1 end) end) []) 1
+unfolding measure_from run_rule rule entry_at
+resource_name_1 = by_measure refl
+
+resource_name_2 : Reads Row.resource_name false (codes "0") (Read 1 (node Tag.ResourceName (place 0 1 end) end) []) 1
+unfolding measure_from run_rule rule entry_at
+resource_name_2 = by_measure refl
+
+resource_name_3 : Reads Row.resource_name false (codes "E") (Read 1 (node Tag.ResourceName (place 0 1 end) end) []) 1
+unfolding measure_from run_rule rule entry_at
+resource_name_3 = by_measure refl
+
+resource_name_4 : Reads Row.resource_name false (codes "_E") (Read 2 (node Tag.ResourceName (place 0 2 end) end) []) 1
+unfolding measure_from run_rule rule entry_at
+resource_name_4 = by_measure refl
+
+resource_name_5 : Reads Row.resource_name false (codes "b$") (Refused Text) 1
+unfolding measure_from run_rule rule entry_at
+resource_name_5 = by_measure refl
+
+resource_name_6 : Reads Row.resource_name false (codes "_$$") (Read 3 (node Tag.ResourceName (place 0 3 end) end) []) 1
+unfolding measure_from run_rule rule entry_at
+resource_name_6 = by_measure refl
+
+resource_name_7 : Reads Row.resource_name false (codes "a$$") (Read 3 (node Tag.ResourceName (place 0 3 end) end) []) 1
+unfolding measure_from run_rule rule entry_at
+resource_name_7 = by_measure refl
+
+resource_name_8 : Reads Row.resource_name false (codes "a_S") (Read 3 (node Tag.ResourceName (place 0 3 end) end) []) 1
+unfolding measure_from run_rule rule entry_at
+resource_name_8 = by_measure refl
+
+resource_name_9 : Reads Row.resource_name false (233 ∷ 95 ∷ 83 ∷ []) (Read 3 (node Tag.ResourceName (place 0 3 end) end) []) 1
+unfolding measure_from run_rule rule entry_at sequence_len
+resource_name_9 = by_measure refl
+
+resource_name_10 : Reads Row.resource_name false (codes "java$") (Refused Text) 1
+unfolding measure_from run_rule rule entry_at
+resource_name_10 = by_measure refl
+
+resource_name_11 : Reads Row.resource_name false (195 ∷ 169 ∷ 46 ∷ 195 ∷ 169 ∷ 36 ∷ 95 ∷ []) (Read 7 (node Tag.ResourceName (place 0 7 end) end) []) 1
+unfolding measure_from run_rule rule entry_at sequence_len
+resource_name_11 = by_measure refl
+
+seq_id_1 : Reads Row.seq_id false (codes "0") (Read 1 (node Tag.SeqId (number (pos 0) end) end) []) 1
+unfolding measure_from run_rule rule entry_at
+seq_id_1 = by_measure refl
+
+seq_id_2 : Reads Row.seq_id false (codes "D") (Read 1 (node Tag.SeqId (number (pos 13) end) end) []) 1
+unfolding measure_from run_rule rule entry_at
+seq_id_2 = by_measure refl
+
+seq_id_3 : Reads Row.seq_id false (codes "n") (Refused Text) 1
+unfolding measure_from run_rule rule entry_at
+seq_id_3 = by_measure refl
+
+special_name_1 : Reads Row.special_name false (codes "TI") (Refused End) 9
+unfolding measure_from run_rule rule entry_at
+special_name_1 = by_measure refl
+
+special_name_2 : Reads Row.special_name false (codes "Tc") (Refused End) 2
+unfolding measure_from run_rule rule entry_at
+special_name_2 = by_measure refl
+
+special_name_3 : Reads Row.special_name false (codes "Gr1") (Refused End) 1
+unfolding measure_from run_rule rule entry_at
+special_name_3 = by_measure refl
+
+special_name_4 : Reads Row.special_name false (codes "TS1") (Refused End) 9
+unfolding measure_from run_rule rule entry_at
+special_name_4 = by_measure refl
+
+special_name_5 : Reads Row.special_name false (codes "GVZ1") (Refused End) 10
+unfolding measure_from run_rule rule entry_at
+special_name_5 = by_measure refl
+
+special_name_6 : Reads Row.special_name false (codes "Gr1_") (Read 4 (node Tag.SpecialNameJavaResource (node Tag.Several end end) end) []) 2
+unfolding measure_from run_rule rule entry_at
+special_name_6 = by_measure refl
+
+special_name_7 : Reads Row.special_name false (codes "TH1_") (Read 4 (node Tag.SpecialNameTlsInit (node Tag.NameUnscoped (node Tag.UnscopedNameUnqualified (node Tag.UnqualifiedNameSource (node Tag.SourceName (node Tag.Identifier (place 3 4 end) end) (node Tag.AbiTags (node Tag.Several end end) end)) end) end) end) end) []) 6
+unfolding measure_from run_rule rule entry_at
+special_name_7 = by_measure refl
+
+special_name_8 : Reads Row.special_name false (codes "TI1A") (Read 4 (node Tag.SpecialNameTypeinfo (node Tag.BackReference (ref N 0 end) end) end) (entry N (node Tag.SubstitutableTypeNode (node Tag.TypeNodeClassEnum (node Tag.ClassEnumTypeNamed (node Tag.NameUnscoped (node Tag.UnscopedNameUnqualified (node Tag.UnqualifiedNameSource (node Tag.SourceName (node Tag.Identifier (place 3 4 end) end) (node Tag.AbiTags (node Tag.Several end end) end)) end) end) end) end) end) end) ∷ [])) 8
+unfolding measure_from run_rule rule entry_at
+special_name_8 = by_measure refl
+
+special_name_9 : Reads Row.special_name false (codes "TI1B") (Read 4 (node Tag.SpecialNameTypeinfo (node Tag.BackReference (ref N 0 end) end) end) (entry N (node Tag.SubstitutableTypeNode (node Tag.TypeNodeClassEnum (node Tag.ClassEnumTypeNamed (node Tag.NameUnscoped (node Tag.UnscopedNameUnqualified (node Tag.UnqualifiedNameSource (node Tag.SourceName (node Tag.Identifier (place 3 4 end) end) (node Tag.AbiTags (node Tag.Several end end) end)) end) end) end) end) end) end) ∷ [])) 8
+unfolding measure_from run_rule rule entry_at
+special_name_9 = by_measure refl
+
+special_name_10 : Reads Row.special_name false (codes "TS1B") (Read 4 (node Tag.SpecialNameTypeinfoName (node Tag.BackReference (ref N 0 end) end) end) (entry N (node Tag.SubstitutableTypeNode (node Tag.TypeNodeClassEnum (node Tag.ClassEnumTypeNamed (node Tag.NameUnscoped (node Tag.UnscopedNameUnqualified (node Tag.UnqualifiedNameSource (node Tag.SourceName (node Tag.Identifier (place 3 4 end) end) (node Tag.AbiTags (node Tag.Several end end) end)) end) end) end) end) end) end) ∷ [])) 8
+unfolding measure_from run_rule rule entry_at
+special_name_10 = by_measure refl
+
+special_name_11 : Reads Row.special_name false (codes "TT1_") (Read 4 (node Tag.SpecialNameVtt (node Tag.BackReference (ref N 0 end) end) end) (entry N (node Tag.SubstitutableTypeNode (node Tag.TypeNodeClassEnum (node Tag.ClassEnumTypeNamed (node Tag.NameUnscoped (node Tag.UnscopedNameUnqualified (node Tag.UnqualifiedNameSource (node Tag.SourceName (node Tag.Identifier (place 3 4 end) end) (node Tag.AbiTags (node Tag.Several end end) end)) end) end) end) end) end) end) ∷ [])) 8
+unfolding measure_from run_rule rule entry_at
+special_name_11 = by_measure refl
+
+special_name_12 : Reads Row.special_name false (codes "TV1C") (Read 4 (node Tag.SpecialNameVirtualTable (node Tag.BackReference (ref N 0 end) end) end) (entry N (node Tag.SubstitutableTypeNode (node Tag.TypeNodeClassEnum (node Tag.ClassEnumTypeNamed (node Tag.NameUnscoped (node Tag.UnscopedNameUnqualified (node Tag.UnqualifiedNameSource (node Tag.SourceName (node Tag.Identifier (place 3 4 end) end) (node Tag.AbiTags (node Tag.Several end end) end)) end) end) end) end) end) end) ∷ [])) 8
+unfolding measure_from run_rule rule entry_at
+special_name_12 = by_measure refl
+
+special_name_13 : Reads Row.special_name false (codes "TW1_") (Read 4 (node Tag.SpecialNameTlsWrapper (node Tag.NameUnscoped (node Tag.UnscopedNameUnqualified (node Tag.UnqualifiedNameSource (node Tag.SourceName (node Tag.Identifier (place 3 4 end) end) (node Tag.AbiTags (node Tag.Several end end) end)) end) end) end) end) []) 6
+unfolding measure_from run_rule rule entry_at
+special_name_13 = by_measure refl
+
+special_name_14 : Reads Row.special_name false (codes "GR1a0") (Refused End) 6
+unfolding measure_from run_rule rule entry_at
+special_name_14 = by_measure refl
+
+special_name_15 : Reads Row.special_name false (codes "GR1a_") (Read 5 (node Tag.SpecialNameGuardTemporary (node Tag.NameUnscoped (node Tag.UnscopedNameUnqualified (node Tag.UnqualifiedNameSource (node Tag.SourceName (node Tag.Identifier (place 3 4 end) end) (node Tag.AbiTags (node Tag.Several end end) end)) end) end) (number (pos 0) end)) end) []) 6
+unfolding measure_from run_rule rule entry_at
+special_name_15 = by_measure refl
+
+special_name_16 : Reads Row.special_name false (codes "GTt1f") (Read 5 (node Tag.SpecialNameTransactionClone (node Tag.EncodingData (node Tag.NameUnscoped (node Tag.UnscopedNameUnqualified (node Tag.UnqualifiedNameSource (node Tag.SourceName (node Tag.Identifier (place 4 5 end) end) (node Tag.AbiTags (node Tag.Several end end) end)) end) end) end) end) end) []) 11
+unfolding measure_from run_rule rule entry_at
+special_name_16 = by_measure refl
+
+special_name_17 : Reads Row.special_name false (codes "GV1aE") (Read 4 (node Tag.SpecialNameGuard (node Tag.NameUnscoped (node Tag.UnscopedNameUnqualified (node Tag.UnqualifiedNameSource (node Tag.SourceName (node Tag.Identifier (place 3 4 end) end) (node Tag.AbiTags (node Tag.Several end end) end)) end) end) end) end) []) 6
+unfolding measure_from run_rule rule entry_at
+special_name_17 = by_measure refl
+
+special_name_18 : Reads Row.special_name false (codes "TF1aE") (Read 4 (node Tag.SpecialNameTypeinfoFunction (node Tag.BackReference (ref N 0 end) end) end) (entry N (node Tag.SubstitutableTypeNode (node Tag.TypeNodeClassEnum (node Tag.ClassEnumTypeNamed (node Tag.NameUnscoped (node Tag.UnscopedNameUnqualified (node Tag.UnqualifiedNameSource (node Tag.SourceName (node Tag.Identifier (place 3 4 end) end) (node Tag.AbiTags (node Tag.Several end end) end)) end) end) end) end) end) end) ∷ [])) 8
+unfolding measure_from run_rule rule entry_at
+special_name_18 = by_measure refl
+
+special_name_19 : Reads Row.special_name false (codes "TIPKc") (Read 5 (node Tag.SpecialNameTypeinfo (node Tag.BackReference (ref N 1 end) end) end) (entry N (node Tag.SubstitutableTypeNode (node Tag.TypeNodeQualified (node Tag.CvQualifiers (flag false (flag false (flag true end))) (node Tag.TypeHandleBuiltin (node Tag.BuiltinTypeStandard (chosen 1 3 end) end) end)) end) end) ∷ entry N (node Tag.SubstitutableTypeNode (node Tag.TypeNodePointerTo (node Tag.BackReference (ref N 0 end) end) end) end) ∷ [])) 9
+unfolding measure_from run_rule rule entry_at
+special_name_19 = by_measure refl
+
+special_name_20 : Reads Row.special_name false (codes "TTSdE") (Read 4 (node Tag.SpecialNameVtt (node Tag.WellKnown (chosen 2 6 end) end) end) []) 9
+unfolding measure_from run_rule rule entry_at
+special_name_20 = by_measure refl
+
+special_name_21 : Reads Row.special_name false (codes "GR1_0_") (Read 6 (node Tag.SpecialNameGuardTemporary (node Tag.NameUnscoped (node Tag.UnscopedNameUnqualified (node Tag.UnqualifiedNameSource (node Tag.SourceName (node Tag.Identifier (place 3 4 end) end) (node Tag.AbiTags (node Tag.Several end end) end)) end) end) (number (pos 1) end)) end) []) 6
+unfolding measure_from run_rule rule entry_at
+special_name_21 = by_measure refl
+
+special_name_22 : Reads Row.special_name false (codes "GT_1fv") (Read 6 (node Tag.SpecialNameTransactionClone (node Tag.EncodingFunction (node Tag.NameUnscoped (node Tag.UnscopedNameUnqualified (node Tag.UnqualifiedNameSource (node Tag.SourceName (node Tag.Identifier (place 4 5 end) end) (node Tag.AbiTags (node Tag.Several end end) end)) end) end) (node Tag.BareFunctionType (node Tag.Several (node Tag.TypeHandleBuiltin (node Tag.BuiltinTypeStandard (chosen 1 0 end) end) end) end) end)) end) end) []) 11
+unfolding measure_from run_rule rule entry_at
+special_name_22 = by_measure refl
+
+special_name_23 : Reads Row.special_name false (codes "GTn1fv") (Read 6 (node Tag.SpecialNameNonTransactionClone (node Tag.EncodingFunction (node Tag.NameUnscoped (node Tag.UnscopedNameUnqualified (node Tag.UnqualifiedNameSource (node Tag.SourceName (node Tag.Identifier (place 4 5 end) end) (node Tag.AbiTags (node Tag.Several end end) end)) end) end) (node Tag.BareFunctionType (node Tag.Several (node Tag.TypeHandleBuiltin (node Tag.BuiltinTypeStandard (chosen 1 0 end) end) end) end) end)) end) end) []) 11
+unfolding measure_from run_rule rule entry_at
+special_name_23 = by_measure refl
+
+special_name_24 : Reads Row.special_name false (codes "TW1a1a") (Read 4 (node Tag.SpecialNameTlsWrapper (node Tag.NameUnscoped (node Tag.UnscopedNameUnqualified (node Tag.UnqualifiedNameSource (node Tag.SourceName (node Tag.Identifier (place 3 4 end) end) (node Tag.AbiTags (node Tag.Several end end) end)) end) end) end) end) []) 6
+unfolding measure_from run_rule rule entry_at
+special_name_24 = by_measure refl
+
+special_name_25 : Reads Row.special_name false (codes "GTn1fvE") (Read 6 (node Tag.SpecialNameNonTransactionClone (node Tag.EncodingFunction (node Tag.NameUnscoped (node Tag.UnscopedNameUnqualified (node Tag.UnqualifiedNameSource (node Tag.SourceName (node Tag.Identifier (place 4 5 end) end) (node Tag.AbiTags (node Tag.Several end end) end)) end) end) (node Tag.BareFunctionType (node Tag.Several (node Tag.TypeHandleBuiltin (node Tag.BuiltinTypeStandard (chosen 1 0 end) end) end) end) end)) end) end) []) 11
+unfolding measure_from run_rule rule entry_at
+special_name_25 = by_measure refl
+
+special_name_26 : Reads Row.special_name false (codes "TC1C0_1") (Refused End) 9
+unfolding measure_from run_rule rule entry_at
+special_name_26 = by_measure refl
+
+special_name_27 : Reads Row.special_name false (codes "TC1a0_1") (Refused End) 9
+unfolding measure_from run_rule rule entry_at
+special_name_27 = by_measure refl
+
+special_name_28 : Reads Row.special_name false (codes "Th__1fv") (Refused Text) 4
+unfolding measure_from run_rule rule entry_at
+special_name_28 = by_measure refl
+
+special_name_29 : Reads Row.special_name false (71 ∷ 114 ∷ 54 ∷ 95 ∷ 233 ∷ 36 ∷ 83 ∷ 98 ∷ []) (Refused End) 1
+unfolding measure_from run_rule rule entry_at sequence_len
+special_name_29 = by_measure refl
+
+special_name_30 : Reads Row.special_name false (codes "TC1C0_1B") (Read 8 (node Tag.SpecialNameConstructionVtable (node Tag.BackReference (ref N 0 end) (number (pos 0) (node Tag.BackReference (ref N 1 end) end))) end) (entry N (node Tag.SubstitutableTypeNode (node Tag.TypeNodeClassEnum (node Tag.ClassEnumTypeNamed (node Tag.NameUnscoped (node Tag.UnscopedNameUnqualified (node Tag.UnqualifiedNameSource (node Tag.SourceName (node Tag.Identifier (place 3 4 end) end) (node Tag.AbiTags (node Tag.Several end end) end)) end) end) end) end) end) end) ∷ entry N (node Tag.SubstitutableTypeNode (node Tag.TypeNodeClassEnum (node Tag.ClassEnumTypeNamed (node Tag.NameUnscoped (node Tag.UnscopedNameUnqualified (node Tag.UnqualifiedNameSource (node Tag.SourceName (node Tag.Identifier (place 7 8 end) end) (node Tag.AbiTags (node Tag.Several end end) end)) end) end) end) end) end) end) ∷ [])) 8
+unfolding measure_from run_rule rule entry_at
+special_name_30 = by_measure refl
+
+special_name_31 : Reads Row.special_name false (codes "TCSd0_Si") (Read 8 (node Tag.SpecialNameConstructionVtable (node Tag.WellKnown (chosen 2 6 end) (number (pos 0) (node Tag.WellKnown (chosen 2 4 end) end))) end) []) 9
+unfolding measure_from run_rule rule entry_at
+special_name_31 = by_measure refl
+
+special_name_32 : Reads Row.special_name false (codes "THN1a1_E") (Read 8 (node Tag.SpecialNameTlsInit (node Tag.NameNested (node Tag.NestedNameUnqualified (node Tag.CvQualifiers (flag false (flag false (flag false end))) (node Tag.Absent end (node Tag.Present (node Tag.BackReference (ref N 0 end) end) (node Tag.UnqualifiedNameSource (node Tag.SourceName (node Tag.Identifier (place 6 7 end) end) (node Tag.AbiTags (node Tag.Several end end) end)) end)))) end) end) end) (entry N (node Tag.SubstitutablePrefix (node Tag.PrefixUnqualified (node Tag.UnqualifiedNameSource (node Tag.SourceName (node Tag.Identifier (place 4 5 end) end) (node Tag.AbiTags (node Tag.Several end end) end)) end) end) end) ∷ entry U (node Tag.SubstitutablePrefix (node Tag.PrefixNested (node Tag.BackReference (ref N 0 end) (node Tag.UnqualifiedNameSource (node Tag.SourceName (node Tag.Identifier (place 6 7 end) end) (node Tag.AbiTags (node Tag.Several end end) end)) end)) end) end) ∷ [])) 8
+unfolding measure_from run_rule rule entry_at
+special_name_32 = by_measure refl
+
+special_name_33 : Reads Row.special_name false (codes "TVN1a1_E") (Read 8 (node Tag.SpecialNameVirtualTable (node Tag.BackReference (ref N 1 end) end) end) (entry N (node Tag.SubstitutablePrefix (node Tag.PrefixUnqualified (node Tag.UnqualifiedNameSource (node Tag.SourceName (node Tag.Identifier (place 4 5 end) end) (node Tag.AbiTags (node Tag.Several end end) end)) end) end) end) ∷ entry U (node Tag.SubstitutablePrefix (node Tag.PrefixNested (node Tag.BackReference (ref N 0 end) (node Tag.UnqualifiedNameSource (node Tag.SourceName (node Tag.Identifier (place 6 7 end) end) (node Tag.AbiTags (node Tag.Several end end) end)) end)) end) end) ∷ entry N (node Tag.SubstitutableTypeNode (node Tag.TypeNodeClassEnum (node Tag.ClassEnumTypeNamed (node Tag.NameNested (node Tag.NestedNameUnqualified (node Tag.CvQualifiers (flag false (flag false (flag false end))) (node Tag.Absent end (node Tag.Present (node Tag.BackReference (ref N 0 end) end) (node Tag.UnqualifiedNameSource (node Tag.SourceName (node Tag.Identifier (place 6 7 end) end) (node Tag.AbiTags (node Tag.Several end end) end)) end)))) end) end) end) end) end) ∷ [])) 10
+unfolding measure_from run_rule rule entry_at
+special_name_33 = by_measure refl
+
+special_name_34 : Reads Row.special_name false (codes "GR1bIvE2_") (Read 9 (node Tag.SpecialNameGuardTemporary (node Tag.NameUnscopedTemplate (node Tag.BackReference (ref N 0 end) (node Tag.TemplateArgs (mark 4 (node Tag.Several (node Tag.TemplateArgTypeArg (node Tag.TypeHandleBuiltin (node Tag.BuiltinTypeStandard (chosen 1 0 end) end) end) end) end)) end)) (number (pos 3) end)) end) (entry N (node Tag.SubstitutableUnscopedTemplateName (node Tag.UnscopedTemplateName (node Tag.UnscopedNameUnqualified (node Tag.UnqualifiedNameSource (node Tag.SourceName (node Tag.Identifier (place 3 4 end) end) (node Tag.AbiTags (node Tag.Several end end) end)) end) end) end) end) ∷ [])) 12
+unfolding measure_from run_rule rule entry_at
+special_name_34 = by_measure refl
+
+special_name_35 : Reads Row.special_name false (71 ∷ 114 ∷ 54 ∷ 95 ∷ 233 ∷ 36 ∷ 83 ∷ 98 ∷ 99 ∷ []) (Read 9 (node Tag.SpecialNameJavaResource (node Tag.Several (node Tag.ResourceName (place 4 7 end) (node Tag.ResourceName (place 7 9 end) end)) end) end) []) 2
+unfolding measure_from run_rule rule entry_at sequence_len
+special_name_35 = by_measure refl
+
+special_name_36 : Reads Row.special_name false (codes "TCSd0_SiE") (Read 8 (node Tag.SpecialNameConstructionVtable (node Tag.WellKnown (chosen 2 6 end) (number (pos 0) (node Tag.WellKnown (chosen 2 4 end) end))) end) []) 9
+unfolding measure_from run_rule rule entry_at
+special_name_36 = by_measure refl
+
+special_name_37 : Reads Row.special_name false (codes "GVZ1fvE1aE") (Read 9 (node Tag.SpecialNameGuard (node Tag.NameLocal (node Tag.LocalNameRelative (node Tag.EncodingFunction (node Tag.NameUnscoped (node Tag.UnscopedNameUnqualified (node Tag.UnqualifiedNameSource (node Tag.SourceName (node Tag.Identifier (place 4 5 end) end) (node Tag.AbiTags (node Tag.Several end end) end)) end) end) (node Tag.BareFunctionType (node Tag.Several (node Tag.TypeHandleBuiltin (node Tag.BuiltinTypeStandard (chosen 1 0 end) end) end) end) end)) (node Tag.Present (node Tag.NameUnscoped (node Tag.UnscopedNameUnqualified (node Tag.UnqualifiedNameSource (node Tag.SourceName (node Tag.Identifier (place 8 9 end) end) (node Tag.AbiTags (node Tag.Several end end) end)) end) end) end) (node Tag.Absent end end))) end) end) end) []) 13
+unfolding measure_from run_rule rule entry_at
+special_name_37 = by_measure refl
+
+special_name_38 : Reads Row.special_name false (codes "Tch0_h_h0_1f") (Refused Text) 4
+unfolding measure_from run_rule rule entry_at
+special_name_38 = by_measure refl
+
+subobject_expr_1 : Reads Row.subobject_expr false (codes "T_fp_4E") (Read 7 (node Tag.SubobjectExpr (node Tag.BackReference (ref N 0 end) (node Tag.ExpressionFunctionParam (node Tag.FunctionParam (number (pos 0) (node Tag.CvQualifiers (flag false (flag false (flag false end))) (node Tag.Present (number (pos 0) end) end))) end) (number (pos 4) end))) end) (entry N (node Tag.SubstitutableTypeNode (node Tag.TypeNodeTemplateParam (node Tag.TemplateParam (number (pos 0) end) end) end) end) ∷ [])) 9
+unfolding measure_from run_rule rule entry_at
+subobject_expr_1 = by_measure refl
+
+template_arg_1 : Reads Row.template_arg false (codes "E") (Refused Text) 9
+unfolding measure_from run_rule rule entry_at
+template_arg_1 = by_measure refl
+
+template_arg_2 : Reads Row.template_arg false (codes "J") (Refused End) 10
+unfolding measure_from run_rule rule entry_at
+template_arg_2 = by_measure refl
+
+template_arg_3 : Reads Row.template_arg false (codes "IEE") (Read 2 (node Tag.TemplateArgArgPack (node Tag.Several end end) end) []) 9
+unfolding measure_from run_rule rule entry_at
+template_arg_3 = by_measure refl
+
+template_arg_4 : Reads Row.template_arg false (codes "VKF") (Refused Text) 12
+unfolding measure_from run_rule rule entry_at
+template_arg_4 = by_measure refl
+
+template_arg_5 : Reads Row.template_arg false (codes "IE1a") (Read 2 (node Tag.TemplateArgArgPack (node Tag.Several end end) end) []) 9
+unfolding measure_from run_rule rule entry_at
+template_arg_5 = by_measure refl
+
+template_arg_6 : Reads Row.template_arg false (codes "J_dE") (Refused Text) 10
+unfolding measure_from run_rule rule entry_at
+template_arg_6 = by_measure refl
+
+template_arg_7 : Reads Row.template_arg false (codes "Lc_E") (Read 4 (node Tag.TemplateArgSimpleExpression (node Tag.ExprPrimaryLiteral (node Tag.TypeHandleBuiltin (node Tag.BuiltinTypeStandard (chosen 1 3 end) end) (place 2 3 end)) end) end) []) 5
+unfolding measure_from run_rule rule entry_at
+template_arg_7 = by_measure refl
+
+template_arg_8 : Reads Row.template_arg false (codes "Lm5E") (Read 4 (node Tag.TemplateArgSimpleExpression (node Tag.ExprPrimaryLiteral (node Tag.TypeHandleBuiltin (node Tag.BuiltinTypeStandard (chosen 1 11 end) end) (place 2 3 end)) end) end) []) 5
+unfolding measure_from run_rule rule entry_at
+template_arg_8 = by_measure refl
+
+template_arg_9 : Reads Row.template_arg false (codes "P1AE") (Read 3 (node Tag.TemplateArgTypeArg (node Tag.BackReference (ref N 1 end) end) end) (entry N (node Tag.SubstitutableTypeNode (node Tag.TypeNodeClassEnum (node Tag.ClassEnumTypeNamed (node Tag.NameUnscoped (node Tag.UnscopedNameUnqualified (node Tag.UnqualifiedNameSource (node Tag.SourceName (node Tag.Identifier (place 2 3 end) end) (node Tag.AbiTags (node Tag.Several end end) end)) end) end) end) end) end) end) ∷ entry N (node Tag.SubstitutableTypeNode (node Tag.TypeNodePointerTo (node Tag.BackReference (ref N 0 end) end) end) end) ∷ [])) 9
+unfolding measure_from run_rule rule entry_at
+template_arg_9 = by_measure refl
+
+template_arg_10 : Reads Row.template_arg false (codes "J_cdE") (Refused Text) 10
+unfolding measure_from run_rule rule entry_at
+template_arg_10 = by_measure refl
+
+template_arg_11 : Reads Row.template_arg false (codes "Xtl1_EE") (Read 7 (node Tag.TemplateArgExpression (node Tag.ExpressionConversionBraced (node Tag.BackReference (ref N 0 end) (node Tag.Several end end)) end) end) (entry N (node Tag.SubstitutableTypeNode (node Tag.TypeNodeClassEnum (node Tag.ClassEnumTypeNamed (node Tag.NameUnscoped (node Tag.UnscopedNameUnqualified (node Tag.UnqualifiedNameSource (node Tag.SourceName (node Tag.Identifier (place 4 5 end) end) (node Tag.AbiTags (node Tag.Several end end) end)) end) end) end) end) end) end) ∷ [])) 9
+unfolding measure_from run_rule rule entry_at
+template_arg_11 = by_measure refl
+
+template_arg_12 : Reads Row.template_arg false (codes "Xtl1DtlA2_M2AFFvvEtlS3_adL_ZNS1_1fEvEEEEE1a") (Read 41 (node Tag.TemplateArgExpression (node Tag.ExpressionConversionBraced (node Tag.BackReference (ref N 0 end) (node Tag.Several (node Tag.ExpressionConversionBraced (node Tag.BackReference (ref N 4 end) (node Tag.Several (node Tag.ExpressionConversionBraced (node Tag.BackReference (ref N 4 end) (node Tag.Several (node Tag.ExpressionUnary (node Tag.OperatorNameSimple (chosen 0 6 end) (node Tag.ExpressionPrimary (node Tag.ExprPrimaryExternal (node Tag.MangledNameEncoding (node Tag.EncodingFunction (node Tag.NameNested (node Tag.NestedNameUnqualified (node Tag.CvQualifiers (flag false (flag false (flag false end))) (node Tag.Absent end (node Tag.Present (node Tag.BackReference (ref N 2 end) end) (node Tag.UnqualifiedNameSource (node Tag.SourceName (node Tag.Identifier (place 33 34 end) end) (node Tag.AbiTags (node Tag.Several end end) end)) end)))) end) (node Tag.BareFunctionType (node Tag.Several (node Tag.TypeHandleBuiltin (node Tag.BuiltinTypeStandard (chosen 1 0 end) end) end) end) end)) (node Tag.Several end end)) end) end) end)) end) end)) end) end)) end) end)) end) end) (entry N (node Tag.SubstitutableTypeNode (node Tag.TypeNodeClassEnum (node Tag.ClassEnumTypeNamed (node Tag.NameUnscoped (node Tag.UnscopedNameUnqualified (node Tag.UnqualifiedNameSource (node Tag.SourceName (node Tag.Identifier (place 4 5 end) end) (node Tag.AbiTags (node Tag.Several end end) end)) end) end) end) end) end) end) ∷ entry N (node Tag.SubstitutableTypeNode (node Tag.TypeNodeClassEnum (node Tag.ClassEnumTypeNamed (node Tag.NameUnscoped (node Tag.UnscopedNameUnqualified (node Tag.UnqualifiedNameSource (node Tag.SourceName (node Tag.Identifier (place 12 14 end) end) (node Tag.AbiTags (node Tag.Several end end) end)) end) end) end) end) end) end) ∷ entry N (node Tag.SubstitutableTypeNode (node Tag.TypeNodeFunction (node Tag.FunctionType (node Tag.CvQualifiers (flag false (flag false (flag false end))) (node Tag.Absent end (flag false (flag false (node Tag.BareFunctionType (node Tag.Several (node Tag.TypeHandleBuiltin (node Tag.BuiltinTypeStandard (chosen 1 0 end) end) (node Tag.TypeHandleBuiltin (node Tag.BuiltinTypeStandard (chosen 1 0 end) end) end)) end) (node Tag.Absent end end)))))) end) end) end) ∷ entry N (node Tag.SubstitutableTypeNode (node Tag.TypeNodePointerToMember (node Tag.PointerToMemberType (node Tag.BackReference (ref N 1 end) (node Tag.BackReference (ref N 2 end) end)) end) end) end) ∷ entry N (node Tag.SubstitutableTypeNode (node Tag.TypeNodeArray (node Tag.ArrayTypeDimensionNumber (number (pos 2) (node Tag.BackReference (ref N 3 end) end)) end) end) end) ∷ entry U (node Tag.SubstitutablePrefix (node Tag.PrefixNested (node Tag.BackReference (ref N 2 end) (node Tag.UnqualifiedNameSource (node Tag.SourceName (node Tag.Identifier (place 33 34 end) end) (node Tag.AbiTags (node Tag.Several end end) end)) end)) end) end) ∷ [])) 18
+unfolding measure_from run_rule rule entry_at
+template_arg_12 = by_measure refl
+
+template_args_1 : Reads Row.template_args false (codes "IXeqT_") (Refused End) 8
 unfolding measure_from run_rule rule entry_at
 template_args_1 = by_measure refl
 
-template_args_2 : Reads Row.template_args false (codes "IXeqT_") (Refused End) 8
+template_args_2 : Reads Row.template_args false (codes "IIS0_EE") (Refused Text) 11
 unfolding measure_from run_rule rule entry_at
 template_args_2 = by_measure refl
 
-template_args_3 : Reads Row.template_args false (codes "IIS0_EE") (Refused Text) 11
+template_args_3 : Reads Row.template_args false (codes "IJIicEE") (Refused End) 12
 unfolding measure_from run_rule rule entry_at
 template_args_3 = by_measure refl
-
-template_args_4 : Reads Row.template_args false (codes "IJIicEE") (Refused End) 12
-unfolding measure_from run_rule rule entry_at
-template_args_4 = by_measure refl
-
-template_args_5 : Reads Row.template_args false (73 ∷ 76 ∷ 95 ∷ 110 ∷ 255 ∷ 69 ∷ 69 ∷ []) (Refused Text) 12
-unfolding measure_from run_rule rule entry_at sequence_len
-template_args_5 = by_measure refl
-
-template_args_6 : Reads Row.template_args false (codes "IIDU0_EE1a") (Read 8 (node Tag.TemplateArgs (mark 0 (node Tag.Several (node Tag.TemplateArgArgPack (node Tag.Several (node Tag.TemplateArgTypeArg (node Tag.TypeHandleBuiltin (node Tag.BuiltinTypeParametric (node Tag.ParametricBuiltinTypeUnsignedBitInt (number (pos 0) end) end) end) end) end) end) end) end)) end) []) 11
-unfolding measure_from run_rule rule entry_at
-template_args_6 = by_measure refl
-
-template_args_7 : Reads Row.template_args false (codes "IXcvbT_EE1a") (Read 9 (node Tag.TemplateArgs (mark 0 (node Tag.Several (node Tag.TemplateArgExpression (node Tag.ExpressionConversionOne (node Tag.TypeHandleBuiltin (node Tag.BuiltinTypeStandard (chosen 1 2 end) end) (node Tag.ExpressionTemplateParam (node Tag.TemplateParam (number (pos 0) end) end) end)) end) end) end)) end) []) 10
-unfolding measure_from run_rule rule entry_at
-template_args_7 = by_measure refl
-
-template_args_8 : Reads Row.template_args false (codes "IXcvPKvadsoi") (Refused End) 11
-unfolding measure_from run_rule rule entry_at
-template_args_8 = by_measure refl
-
-template_args_9 : Reads Row.template_args false (codes "IPU7stdcallU7reg") (Refused Text) 10
-unfolding measure_from run_rule rule entry_at
-template_args_9 = by_measure refl
-
-template_args_10 : Reads Row.template_args false (codes "IPU8fastcallFviiEE1a") (Read 18 (node Tag.TemplateArgs (mark 0 (node Tag.Several (node Tag.TemplateArgTypeArg (node Tag.BackReference (ref N 2 end) end) end) end)) end) (entry N (node Tag.SubstitutableTypeNode (node Tag.TypeNodeFunction (node Tag.FunctionType (node Tag.CvQualifiers (flag false (flag false (flag false end))) (node Tag.Absent end (flag false (flag false (node Tag.BareFunctionType (node Tag.Several (node Tag.TypeHandleBuiltin (node Tag.BuiltinTypeStandard (chosen 1 0 end) end) (node Tag.TypeHandleBuiltin (node Tag.BuiltinTypeStandard (chosen 1 8 end) end) (node Tag.TypeHandleBuiltin (node Tag.BuiltinTypeStandard (chosen 1 8 end) end) end))) end) (node Tag.Absent end end)))))) end) end) end) ∷ entry N (node Tag.SubstitutableTypeNode (node Tag.TypeNodeVendorExtension (node Tag.SourceName (node Tag.Identifier (place 4 12 end) end) (node Tag.Absent end (node Tag.BackReference (ref N 0 end) end))) end) end) ∷ entry N (node Tag.SubstitutableTypeNode (node Tag.TypeNodePointerTo (node Tag.BackReference (ref N 1 end) end) end) end) ∷ [])) 15
-unfolding measure_from run_rule rule entry_at
-template_args_10 = by_measure refl
-
-template_args_11 : Reads Row.template_args false (codes "IPvXadsoiL_ZNS_1qEEEEEE") (Read 22 (node Tag.TemplateArgs (mark 0 (node Tag.Several (node Tag.TemplateArgTypeArg (node Tag.BackReference (ref N 0 end) end) (node Tag.TemplateArgExpression (node Tag.ExpressionUnary (node Tag.OperatorNameSimple (chosen 0 6 end) (node Tag.ExpressionSubobject (node Tag.SubobjectExpr (node Tag.TypeHandleBuiltin (node Tag.BuiltinTypeStandard (chosen 1 8 end) end) (node Tag.ExpressionPrimary (node Tag.ExprPrimaryExternal (node Tag.MangledNameEncoding (node Tag.EncodingData (node Tag.NameNested (node Tag.NestedNameUnqualified (node Tag.CvQualifiers (flag false (flag false (flag false end))) (node Tag.Absent end (node Tag.Present (node Tag.BackReference (ref N 0 end) end) (node Tag.UnqualifiedNameSource (node Tag.SourceName (node Tag.Identifier (place 16 17 end) end) (node Tag.AbiTags (node Tag.Several end end) end)) end)))) end) end) (node Tag.Several end end)) end) end) (number (pos 0) end))) end) end)) end) end)) end)) end) (entry N (node Tag.SubstitutableTypeNode (node Tag.TypeNodePointerTo (node Tag.TypeHandleBuiltin (node Tag.BuiltinTypeStandard (chosen 1 0 end) end) end) end) end) ∷ entry U (node Tag.SubstitutablePrefix (node Tag.PrefixNested (node Tag.BackReference (ref N 0 end) (node Tag.UnqualifiedNameSource (node Tag.SourceName (node Tag.Identifier (place 16 17 end) end) (node Tag.AbiTags (node Tag.Several end end) end)) end)) end) end) ∷ [])) 18
-unfolding measure_from run_rule rule entry_at
-template_args_11 = by_measure refl
-
-template_args_12 : Reads Row.template_args false (codes "IXcvPKvadsoiL_ZNS_1qEEEEE") (Read 25 (node Tag.TemplateArgs (mark 0 (node Tag.Several (node Tag.TemplateArgExpression (node Tag.ExpressionConversionOne (node Tag.BackReference (ref N 1 end) (node Tag.ExpressionUnary (node Tag.OperatorNameSimple (chosen 0 6 end) (node Tag.ExpressionSubobject (node Tag.SubobjectExpr (node Tag.TypeHandleBuiltin (node Tag.BuiltinTypeStandard (chosen 1 8 end) end) (node Tag.ExpressionPrimary (node Tag.ExprPrimaryExternal (node Tag.MangledNameEncoding (node Tag.EncodingData (node Tag.NameNested (node Tag.NestedNameUnqualified (node Tag.CvQualifiers (flag false (flag false (flag false end))) (node Tag.Absent end (node Tag.Present (node Tag.BackReference (ref N 0 end) end) (node Tag.UnqualifiedNameSource (node Tag.SourceName (node Tag.Identifier (place 19 20 end) end) (node Tag.AbiTags (node Tag.Several end end) end)) end)))) end) end) (node Tag.Several end end)) end) end) (number (pos 0) end))) end) end)) end)) end) end) end)) end) (entry N (node Tag.SubstitutableTypeNode (node Tag.TypeNodeQualified (node Tag.CvQualifiers (flag false (flag false (flag true end))) (node Tag.TypeHandleBuiltin (node Tag.BuiltinTypeStandard (chosen 1 0 end) end) end)) end) end) ∷ entry N (node Tag.SubstitutableTypeNode (node Tag.TypeNodePointerTo (node Tag.BackReference (ref N 0 end) end) end) end) ∷ entry U (node Tag.SubstitutablePrefix (node Tag.PrefixNested (node Tag.BackReference (ref N 0 end) (node Tag.UnqualifiedNameSource (node Tag.SourceName (node Tag.Identifier (place 19 20 end) end) (node Tag.AbiTags (node Tag.Several end end) end)) end)) end) end) ∷ [])) 19
-unfolding measure_from run_rule rule entry_at
-template_args_12 = by_measure refl
-
-template_template_param_handle_1 : Reads Row.template_template_param_handle false (codes "T_E") (Read 2 (node Tag.BackReference (ref N 0 end) end) (entry N (node Tag.SubstitutableTemplateTemplateParam (node Tag.TemplateTemplateParam (node Tag.TemplateParam (number (pos 0) end) end) end) end) ∷ [])) 3
-unfolding measure_from run_rule rule entry_at
-template_template_param_handle_1 = by_measure refl
-
-template_template_param_handle_2 : Reads Row.template_template_param_handle false (codes "T1_E") (Read 3 (node Tag.BackReference (ref N 0 end) end) (entry N (node Tag.SubstitutableTemplateTemplateParam (node Tag.TemplateTemplateParam (node Tag.TemplateParam (number (pos 2) end) end) end) end) ∷ [])) 3
-unfolding measure_from run_rule rule entry_at
-template_template_param_handle_2 = by_measure refl
-
-type_handle_1 : Reads Row.type_handle false (codes "DS") (Refused Text) 8
-unfolding measure_from run_rule rule entry_at
-type_handle_1 = by_measure refl
-
-type_handle_2 : Reads Row.type_handle false (codes "D_") (Refused Text) 8
-unfolding measure_from run_rule rule entry_at
-type_handle_2 = by_measure refl
-
-type_handle_3 : Reads Row.type_handle false (codes "rVKi") (Read 4 (node Tag.BackReference (ref N 0 end) end) (entry N (node Tag.SubstitutableTypeNode (node Tag.TypeNodeQualified (node Tag.CvQualifiers (flag true (flag true (flag true end))) (node Tag.TypeHandleBuiltin (node Tag.BuiltinTypeStandard (chosen 1 8 end) end) end)) end) end) ∷ [])) 4
-unfolding measure_from run_rule rule entry_at
-type_handle_3 = by_measure refl
-
-type_handle_4 : Reads Row.type_handle false (codes "u8cha") (Refused Text) 8
-unfolding measure_from run_rule rule entry_at
-type_handle_4 = by_measure refl
-
-type_handle_5 : Reads Row.type_handle false (codes "DTnxfp_EE") (Read 8 (node Tag.BackReference (ref N 0 end) end) (entry N (node Tag.SubstitutableTypeNode (node Tag.TypeNodeDecltype (node Tag.DecltypeExpression (node Tag.ExpressionNoexcept (node Tag.ExpressionFunctionParam (node Tag.FunctionParam (number (pos 0) (node Tag.CvQualifiers (flag false (flag false (flag false end))) (node Tag.Present (number (pos 0) end) end))) end) end) end) end) end) end) ∷ [])) 8
-unfolding measure_from run_rule rule entry_at
-type_handle_5 = by_measure refl
-
-type_handle_6 : Reads Row.type_handle false (codes "u8char16_t") (Read 10 (node Tag.TypeHandleBuiltin (node Tag.BuiltinTypeExtension (node Tag.SourceName (node Tag.Identifier (place 2 10 end) end) end) end) end) []) 4
-unfolding measure_from run_rule rule entry_at
-type_handle_6 = by_measure refl
-
-type_handle_7 : Reads Row.type_handle false (codes "DTdcT_fp_EE") (Read 10 (node Tag.BackReference (ref N 1 end) end) (entry N (node Tag.SubstitutableTypeNode (node Tag.TypeNodeTemplateParam (node Tag.TemplateParam (number (pos 0) end) end) end) end) ∷ entry N (node Tag.SubstitutableTypeNode (node Tag.TypeNodeDecltype (node Tag.DecltypeExpression (node Tag.ExpressionDynamicCast (node Tag.BackReference (ref N 0 end) (node Tag.ExpressionFunctionParam (node Tag.FunctionParam (number (pos 0) (node Tag.CvQualifiers (flag false (flag false (flag false end))) (node Tag.Present (number (pos 0) end) end))) end) end)) end) end) end) end) ∷ [])) 11
-unfolding measure_from run_rule rule entry_at
-type_handle_7 = by_measure refl
-
-type_handle_8 : Reads Row.type_handle false (codes "DTqufp_Li1ELi2E") (Refused Text) 8
-unfolding measure_from run_rule rule entry_at
-type_handle_8 = by_measure refl
-
-unnamed_type_name_1 : Reads Row.unnamed_type_name false (codes "Ut1_") (Read 4 (node Tag.UnnamedTypeName (node Tag.Present (number (pos 1) end) end) end) []) 1
-unfolding measure_from run_rule rule entry_at
-unnamed_type_name_1 = by_measure refl
-
-unqualified_name_1 : Reads Row.unqualified_name false (codes "D0E") (Read 2 (node Tag.UnqualifiedNameCtorDtor (node Tag.CtorDtorNameDeletingDestructor end (node Tag.AbiTags (node Tag.Several end end) end)) end) []) 3
-unfolding measure_from run_rule rule entry_at
-unqualified_name_1 = by_measure refl
-
-unqualified_name_2 : Reads Row.unqualified_name false (codes "CI21b") (Read 5 (node Tag.UnqualifiedNameCtorDtor (node Tag.CtorDtorNameBaseConstructor (node Tag.Present (node Tag.BackReference (ref N 0 end) end) end) (node Tag.AbiTags (node Tag.Several end end) end)) end) (entry N (node Tag.SubstitutableTypeNode (node Tag.TypeNodeClassEnum (node Tag.ClassEnumTypeNamed (node Tag.NameUnscoped (node Tag.UnscopedNameUnqualified (node Tag.UnqualifiedNameSource (node Tag.SourceName (node Tag.Identifier (place 4 5 end) end) (node Tag.AbiTags (node Tag.Several end end) end)) end) end) end) end) end) end) ∷ [])) 9
-unfolding measure_from run_rule rule entry_at
-unqualified_name_2 = by_measure refl
-
-unqualified_name_3 : Reads Row.unqualified_name false (76 ∷ 50 ∷ 195 ∷ 169 ∷ 95 ∷ []) (Read 4 (node Tag.UnqualifiedNameLocalSourceName (node Tag.SourceName (node Tag.Identifier (place 2 4 end) end) (node Tag.Absent end (node Tag.AbiTags (node Tag.Several end end) end))) end) []) 3
-unfolding measure_from run_rule rule entry_at sequence_len
-unqualified_name_3 = by_measure refl
-
-unresolved_name_1 : Reads Row.unresolved_name false (codes "gs") (Refused End) 4
-unfolding measure_from run_rule rule entry_at
-unresolved_name_1 = by_measure refl
-
-unresolved_name_2 : Reads Row.unresolved_name false (codes "sr1") (Refused End) 4
-unfolding measure_from run_rule rule entry_at
-unresolved_name_2 = by_measure refl
-
-unresolved_name_3 : Reads Row.unresolved_name false (codes "dn1_") (Read 4 (node Tag.UnresolvedNameName (node Tag.BaseUnresolvedNameDestructor (node Tag.DestructorNameName (node Tag.SimpleId (node Tag.SourceName (node Tag.Identifier (place 3 4 end) end) (node Tag.Absent end end)) end) end) end) end) []) 6
-unfolding measure_from run_rule rule entry_at
-unresolved_name_3 = by_measure refl
-
-unresolved_name_4 : Reads Row.unresolved_name false (codes "gs1g") (Read 4 (node Tag.UnresolvedNameGlobal (node Tag.BaseUnresolvedNameName (node Tag.SimpleId (node Tag.SourceName (node Tag.Identifier (place 3 4 end) end) (node Tag.Absent end end)) end) end) end) []) 5
-unfolding measure_from run_rule rule entry_at
-unresolved_name_4 = by_measure refl
-
-unresolved_name_5 : Reads Row.unresolved_name false (codes "oncv") (Refused Text) 11
-unfolding measure_from run_rule rule entry_at
-unresolved_name_5 = by_measure refl
-
-unresolved_name_6 : Reads Row.unresolved_name false (codes "srT_") (Refused End) 4
-unfolding measure_from run_rule rule entry_at
-unresolved_name_6 = by_measure refl
-
-unresolved_name_7 : Reads Row.unresolved_name false (codes "srNT_") (Refused End) 4
-unfolding measure_from run_rule rule entry_at
-unresolved_name_7 = by_measure refl
-
-unresolved_name_8 : Reads Row.unresolved_name false (codes "onplIi") (Read 4 (node Tag.UnresolvedNameName (node Tag.BaseUnresolvedNameOperator (node Tag.OperatorNameSimple (chosen 0 9 end) (node Tag.Absent end end)) end) end) []) 12
-unfolding measure_from run_rule rule entry_at
-unresolved_name_8 = by_measure refl
-
-unresolved_name_9 : Reads Row.unresolved_name false (codes "srSs1g") (Read 6 (node Tag.UnresolvedNameNested1 (node Tag.WellKnown (chosen 2 3 end) (node Tag.Several end (node Tag.BaseUnresolvedNameName (node Tag.SimpleId (node Tag.SourceName (node Tag.Identifier (place 5 6 end) end) (node Tag.Absent end end)) end) end))) end) []) 5
-unfolding measure_from run_rule rule entry_at
-unresolved_name_9 = by_measure refl
-
-unresolved_name_10 : Reads Row.unresolved_name false (codes "srT_1g") (Read 6 (node Tag.UnresolvedNameNested1 (node Tag.BackReference (ref N 0 end) (node Tag.Several end (node Tag.BaseUnresolvedNameName (node Tag.SimpleId (node Tag.SourceName (node Tag.Identifier (place 5 6 end) end) (node Tag.Absent end end)) end) end))) end) (entry N (node Tag.SubstitutableUnresolvedType (node Tag.UnresolvedTypeTemplate (node Tag.TemplateParam (number (pos 0) end) (node Tag.Absent end end)) end) end) ∷ [])) 5
-unfolding measure_from run_rule rule entry_at
-unresolved_name_10 = by_measure refl
-
-unresolved_name_11 : Reads Row.unresolved_name false (codes "gssr1a1") (Refused Text) 5
-unfolding measure_from run_rule rule entry_at
-unresolved_name_11 = by_measure refl
-
-unresolved_name_12 : Reads Row.unresolved_name false (codes "sr1AIT_") (Refused Text) 13
-unfolding measure_from run_rule rule entry_at
-unresolved_name_12 = by_measure refl
-
-unresolved_name_13 : Reads Row.unresolved_name false (codes "gssr1aE1") (Refused End) 5
-unfolding measure_from run_rule rule entry_at
-unresolved_name_13 = by_measure refl
-
-unresolved_name_14 : Reads Row.unresolved_name false (codes "srT_IiE1") (Refused End) 12
-unfolding measure_from run_rule rule entry_at
-unresolved_name_14 = by_measure refl
-
-unresolved_name_15 : Reads Row.unresolved_name false (codes "gssr1aE1g") (Read 9 (node Tag.UnresolvedNameGlobalNested2 (node Tag.Several (node Tag.UnresolvedQualifierLevel (node Tag.SimpleId (node Tag.SourceName (node Tag.Identifier (place 5 6 end) end) (node Tag.Absent end end)) end) end) (node Tag.BaseUnresolvedNameName (node Tag.SimpleId (node Tag.SourceName (node Tag.Identifier (place 8 9 end) end) (node Tag.Absent end end)) end) end)) end) []) 5
-unfolding measure_from run_rule rule entry_at
-unresolved_name_15 = by_measure refl
-
-unresolved_name_16 : Reads Row.unresolved_name false (codes "sr1aE1g1a") (Read 7 (node Tag.UnresolvedNameNested2 (node Tag.Several (node Tag.UnresolvedQualifierLevel (node Tag.SimpleId (node Tag.SourceName (node Tag.Identifier (place 3 4 end) end) (node Tag.Absent end end)) end) end) (node Tag.BaseUnresolvedNameName (node Tag.SimpleId (node Tag.SourceName (node Tag.Identifier (place 6 7 end) end) (node Tag.Absent end end)) end) end)) end) []) 5
-unfolding measure_from run_rule rule entry_at
-unresolved_name_16 = by_measure refl
-
-unresolved_name_17 : Reads Row.unresolved_name false (codes "sr1a1bE1gIi") (Read 9 (node Tag.UnresolvedNameNested2 (node Tag.Several (node Tag.UnresolvedQualifierLevel (node Tag.SimpleId (node Tag.SourceName (node Tag.Identifier (place 3 4 end) end) (node Tag.Absent end end)) end) (node Tag.UnresolvedQualifierLevel (node Tag.SimpleId (node Tag.SourceName (node Tag.Identifier (place 5 6 end) end) (node Tag.Absent end end)) end) end)) (node Tag.BaseUnresolvedNameName (node Tag.SimpleId (node Tag.SourceName (node Tag.Identifier (place 8 9 end) end) (node Tag.Absent end end)) end) end)) end) []) 13
-unfolding measure_from run_rule rule entry_at
-unresolved_name_17 = by_measure refl
-
-unresolved_name_18 : Reads Row.unresolved_name false (codes "srNT_1bE1g1a") (Read 10 (node Tag.UnresolvedNameNested1 (node Tag.BackReference (ref N 0 end) (node Tag.Several (node Tag.UnresolvedQualifierLevel (node Tag.SimpleId (node Tag.SourceName (node Tag.Identifier (place 6 7 end) end) (node Tag.Absent end end)) end) end) (node Tag.BaseUnresolvedNameName (node Tag.SimpleId (node Tag.SourceName (node Tag.Identifier (place 9 10 end) end) (node Tag.Absent end end)) end) end))) end) (entry N (node Tag.SubstitutableUnresolvedType (node Tag.UnresolvedTypeTemplate (node Tag.TemplateParam (number (pos 0) end) (node Tag.Absent end end)) end) end) ∷ [])) 5
-unfolding measure_from run_rule rule entry_at
-unresolved_name_18 = by_measure refl
-
-unresolved_name_19 : Reads Row.unresolved_name false (codes "srNSt1bIiE1cE1g") (Read 15 (node Tag.UnresolvedNameNested1 (node Tag.WellKnown (chosen 2 0 end) (node Tag.Several (node Tag.UnresolvedQualifierLevel (node Tag.SimpleId (node Tag.SourceName (node Tag.Identifier (place 6 7 end) end) (node Tag.Present (node Tag.TemplateArgs (mark 7 (node Tag.Several (node Tag.TemplateArgTypeArg (node Tag.TypeHandleBuiltin (node Tag.BuiltinTypeStandard (chosen 1 8 end) end) end) end) end)) end) end)) end) (node Tag.UnresolvedQualifierLevel (node Tag.SimpleId (node Tag.SourceName (node Tag.Identifier (place 11 12 end) end) (node Tag.Absent end end)) end) end)) (node Tag.BaseUnresolvedNameName (node Tag.SimpleId (node Tag.SourceName (node Tag.Identifier (place 14 15 end) end) (node Tag.Absent end end)) end) end))) end) []) 13
-unfolding measure_from run_rule rule entry_at
-unresolved_name_19 = by_measure refl
-
-unresolved_type_handle_1 : Reads Row.unresolved_type_handle false (codes "S_") (Refused Bad) 3
-unfolding measure_from run_rule rule entry_at
-unresolved_type_handle_1 = by_measure refl
-
-unresolved_type_handle_2 : Reads Row.unresolved_type_handle false (codes "T_E") (Read 2 (node Tag.BackReference (ref N 0 end) end) (entry N (node Tag.SubstitutableUnresolvedType (node Tag.UnresolvedTypeTemplate (node Tag.TemplateParam (number (pos 0) end) (node Tag.Absent end end)) end) end) ∷ [])) 2
-unfolding measure_from run_rule rule entry_at
-unresolved_type_handle_2 = by_measure refl
-
-unresolved_type_handle_3 : Reads Row.unresolved_type_handle false (codes "Dtfp_") (Refused Text) 5
-unfolding measure_from run_rule rule entry_at
-unresolved_type_handle_3 = by_measure refl
-
-unresolved_type_handle_4 : Reads Row.unresolved_type_handle false (codes "Dtfp_EE") (Read 6 (node Tag.BackReference (ref N 0 end) end) (entry N (node Tag.SubstitutableUnresolvedType (node Tag.UnresolvedTypeDecltype (node Tag.DecltypeIdExpression (node Tag.ExpressionFunctionParam (node Tag.FunctionParam (number (pos 0) (node Tag.CvQualifiers (flag false (flag false (flag false end))) (node Tag.Present (number (pos 0) end) end))) end) end) end) end) end) ∷ [])) 5
-unfolding measure_from run_rule rule entry_at
-unresolved_type_handle_4 = by_measure refl
-
-unscoped_name_1 : Reads Row.unscoped_name false (codes "St") (Refused End) 4
-unfolding measure_from run_rule rule entry_at
-unscoped_name_1 = by_measure refl
-
-unscoped_name_2 : Reads Row.unscoped_name false (codes "L3f") (Refused End) 4
-unfolding measure_from run_rule rule entry_at
-unscoped_name_2 = by_measure refl
-
-unscoped_name_3 : Reads Row.unscoped_name false (codes "1fB1") (Read 2 (node Tag.UnscopedNameUnqualified (node Tag.UnqualifiedNameSource (node Tag.SourceName (node Tag.Identifier (place 1 2 end) end) (node Tag.AbiTags (node Tag.Several end end) end)) end) end) []) 5
-unfolding measure_from run_rule rule entry_at
-unscoped_name_3 = by_measure refl
-
-unscoped_name_4 : Reads Row.unscoped_name false (codes "St1f") (Read 4 (node Tag.UnscopedNameStd (node Tag.UnqualifiedNameSource (node Tag.SourceName (node Tag.Identifier (place 3 4 end) end) (node Tag.AbiTags (node Tag.Several end end) end)) end) end) []) 4
-unfolding measure_from run_rule rule entry_at
-unscoped_name_4 = by_measure refl
-
-unscoped_name_5 : Reads Row.unscoped_name false (codes "UlN1a") (Refused Text) 13
-unfolding measure_from run_rule rule entry_at
-unscoped_name_5 = by_measure refl
-
-unscoped_template_name_handle_1 : Reads Row.unscoped_template_name_handle false (codes "C1E") (Read 2 (node Tag.BackReference (ref N 0 end) end) (entry N (node Tag.SubstitutableUnscopedTemplateName (node Tag.UnscopedTemplateName (node Tag.UnscopedNameUnqualified (node Tag.UnqualifiedNameCtorDtor (node Tag.CtorDtorNameCompleteConstructor (node Tag.Absent end end) (node Tag.AbiTags (node Tag.Several end end) end)) end) end) end) end) ∷ [])) 5
-unfolding measure_from run_rule rule entry_at
-unscoped_template_name_handle_1 = by_measure refl
-
-v_offset_1 : Reads Row.v_offset false (codes "E") (Refused Text) 2
-unfolding measure_from run_rule rule entry_at
-v_offset_1 = by_measure refl
-
-vector_type_1 : Reads Row.vector_type false (codes "Dv4") (Refused End) 1
-unfolding measure_from run_rule rule entry_at
-vector_type_1 = by_measure refl
-
-vector_type_2 : Reads Row.vector_type false (codes "Dv1_c") (Read 5 (node Tag.VectorTypeDimensionNumber (number (pos 1) (node Tag.TypeHandleBuiltin (node Tag.BuiltinTypeStandard (chosen 1 3 end) end) end)) end) []) 4
-unfolding measure_from run_rule rule entry_at
-vector_type_2 = by_measure refl
-
-vector_type_3 : Reads Row.vector_type false (codes "Dv_2_f") (Refused Text) 6
-unfolding measure_from run_rule rule entry_at
-vector_type_3 = by_measure refl
-
-vector_type_4 : Reads Row.vector_type false (codes "DvstT__fE") (Read 8 (node Tag.VectorTypeDimensionExpression (node Tag.ExpressionSizeofType (node Tag.BackReference (ref N 0 end) end) (node Tag.TypeHandleBuiltin (node Tag.BuiltinTypeStandard (chosen 1 16 end) end) end)) end) (entry N (node Tag.SubstitutableTypeNode (node Tag.TypeNodeTemplateParam (node Tag.TemplateParam (number (pos 0) end) end) end) end) ∷ [])) 10
-unfolding measure_from run_rule rule entry_at
-vector_type_4 = by_measure refl

@@ -1,5 +1,5 @@
 -- The names of plain functions, and the text of such a name: `_Z3fooib` is `foo(int, bool)`.
-use Rattle.std.specs.Prelude.{ℕ, Bool, true, false, ◌&&◌, ◌||◌, ◌==◌, nat_le, nat_lt, List, [], ◌∷◌, ◌++◌, length, take}
+use Rattle.std.specs.Prelude.{ℕ, Bool, ◌&&◌, ◌==◌, nat_le, nat_lt, List, [], ◌∷◌, ◌++◌, length, take}
 use Rattle.std.specs.Prelude.{drop, Option, Some, None, Result, Ok, Err, if◌then◌else◌, codes}
 use Rattle.demangle_text.specs.Kind.{Kind}
 use Rattle.demangle_text.specs.Characters.{identifier_len}
