@@ -1,8 +1,6 @@
 -- Laws on what a sink was given, one write after another.
-use Rattle.std.proofs.Common.{
-    subst, Result, Ok, Err, ◌≡◌, ℕ, List, [], ◌++◌, length, take, drop, refl, sym, ap, ◌∙◌, append_assoc,
-    take-append-drop, ◌-◌, arith
-}
+use Rattle.std.proofs.Common.{subst, Result, Ok, Err, ◌≡◌, ℕ, List, [], ◌++◌, length, take, drop, refl, sym, ap, ◌∙◌}
+use Rattle.std.proofs.Common.{append_assoc, take-append-drop, ◌-◌, arith}
 use Rattle.std.proofs.lemmas.Grind.{common_steps}
 use Rattle.std.specs.Prelude.{Option}
 use Rattle.std.specs.Io.KnownBytes.{Appends, Keeps}

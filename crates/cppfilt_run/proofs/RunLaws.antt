@@ -1,8 +1,7 @@
 -- Laws on a run over an input: how it goes on, and how it stops.
-use Rattle.std.proofs.Common.{
-    Bool, true, false, subst, ◌≡◌, ◌⊎◌, inl, inr, ℕ, ◌+◌, ◌-◌, ◌^◌, ◌<◌, ◌≤◌, min, List, [], ◌++◌, length, take,
-    refl, sym, ap, ◌∙◌, append_assoc, append-nil, arith, length-append, Err
-}
+use Rattle.std.proofs.Common.{Bool, true, false, subst, ◌≡◌, ◌⊎◌, inl, inr, ℕ, ◌+◌, ◌-◌, ◌^◌, ◌<◌, ◌≤◌, min, List, []}
+use Rattle.std.proofs.Common.{◌++◌, length, take, refl, sym, ap, ◌∙◌, append_assoc, append-nil, arith, length-append}
+use Rattle.std.proofs.Common.{Err}
 use Rattle.std.specs.Prelude.{Option, Some, None, IfSome}
 use Rattle.std.specs.Io.KnownBytes.{Appends, Consumes, Keeps, IsAtEnd}
 use Rattle.std.proofs.lemmas.Bool.{cases_lt}
@@ -19,9 +18,8 @@ use Rattle.cppfilt_run.specs.Outcome.{OfTaken, KeepsUp, Going, Stopped, Finished
 use Rattle.cppfilt_run.specs.Owed.{passed, ahead, Kept, block_limit}
 use Rattle.cppfilt_run.specs.Statuses.{refusal_status}
 use Rattle.cppfilt_run.specs.declared.status.Status.{Status}
-use Rattle.cppfilt_run.specs.declared.status.Status.TheVariants.{
-    Done, Usage, ReadFault, WriteFault, InputTooLong, OutOfMemory
-}
+use Rattle.cppfilt_run.specs.declared.status.Status.TheVariants.{Done, Usage, ReadFault, WriteFault, InputTooLong}
+use Rattle.cppfilt_run.specs.declared.status.Status.TheVariants.{OutOfMemory}
 use Rattle.cppfilt_run.proofs.MoveLaws.{moves-none, moves-then, begins, begins-then, begins-none}
 use Rattle.cppfilt_run.proofs.OwedLaws.{passed-nil}
 

@@ -1,16 +1,14 @@
 -- What a run over an input did, as far as it came.
-use Rattle.std.specs.Prelude.{
-    ◌≡◌, ◌⊎◌, ℕ, ◌+◌, ◌^◌, ◌-◌, ◌<◌, ◌≤◌, Bool, List, [], ◌++◌, length, take, Option, Some, None, IfSome, ⊤
-}
+use Rattle.std.specs.Prelude.{◌≡◌, ◌⊎◌, ℕ, ◌+◌, ◌^◌, ◌-◌, ◌<◌, ◌≤◌, Bool, List, [], ◌++◌, length, take, Option, Some}
+use Rattle.std.specs.Prelude.{None, IfSome, ⊤}
 use Rattle.std.specs.Io.KnownBytes.{Appends, Consumes, IsAtEnd}
 use Rattle.demangle_grammar.specs.Lines.{due, due_so_far}
 use Rattle.cppfilt_run.specs.Causes.{Rose}
 use Rattle.cppfilt_run.specs.Moves.{Moves, Begins}
 use Rattle.cppfilt_run.specs.Owed.{ahead, Kept, block_limit}
 use Rattle.cppfilt_run.specs.declared.status.Status.{Status}
-use Rattle.cppfilt_run.specs.declared.status.Status.TheVariants.{
-    Done, Usage, ReadFault, WriteFault, InputTooLong, OutOfMemory
-}
+use Rattle.cppfilt_run.specs.declared.status.Status.TheVariants.{Done, Usage, ReadFault, WriteFault, InputTooLong}
+use Rattle.cppfilt_run.specs.declared.status.Status.TheVariants.{OutOfMemory}
 
 -- ---- what was taken and what was written
 -- what holds of the bytes that were taken, where the source tells its bytes

@@ -1,7 +1,6 @@
 -- What is owed for the bytes behind a line that isn't complete yet.
-use Rattle.std.specs.Prelude.{
-    ◌≡◌, ◌+◌, ◌<◌, ◌≤◌, length, ℕ, Bool, true, false, List, [], ◌∷◌, ◌++◌, ◌==◌, if◌then◌else◌
-}
+use Rattle.std.specs.Prelude.{◌≡◌, ◌+◌, ◌<◌, ◌≤◌, length, ℕ, Bool, true, false, List, [], ◌∷◌, ◌++◌, ◌==◌}
+use Rattle.std.specs.Prelude.{if◌then◌else◌}
 use Rattle.demangle_grammar.specs.Lines.{due, shown_line, line_limit, unfinished}
 
 -- behind the front of a line that is too long to be asked: the line's rest as it is, and then what is due

@@ -52,7 +52,7 @@ pub fn run<R: Source, W: Sink, E: Sink>(
     ensures complete { vec_len words ≡ 0 → NoFault (R.faults input.old) (R.faults input.new)
         → NoFault (W.faults output.old) (W.faults output.new)
         → IfSome (R.left input.old)
-            (λ bytes. length bytes ≤ 2 ^ 40 → (result ≡ Status.Done) ⊎ (result ≡ Status.OutOfMemory)) }
+        (λ bytes. length bytes ≤ 2 ^ 40 → (result ≡ Status.Done) ⊎ (result ≡ Status.OutOfMemory)) }
     // and a longer one is refused.
     ensures refused { vec_len words ≡ 0 → NoFault (R.faults input.old) (R.faults input.new)
         → NoFault (W.faults output.old) (W.faults output.new)

@@ -1,8 +1,6 @@
 -- The lines of an input, and what a line filter owes for them.
-use Rattle.std.specs.Prelude.{
-    ℕ, ◌+◌, ◌-◌, List, [], ◌∷◌, ◌++◌, length, take, drop, slice_index, flat_map, nat_le, nat_lt, ◌==◌, if◌then◌else◌,
-    unwrap_or, not, fold
-}
+use Rattle.std.specs.Prelude.{ℕ, ◌+◌, ◌-◌, List, [], ◌∷◌, ◌++◌, length, take, drop, slice_index, flat_map, nat_le}
+use Rattle.std.specs.Prelude.{nat_lt, ◌==◌, if◌then◌else◌, unwrap_or, not, fold}
 use Rattle.std.specs.List.{prefix_len}
 use Rattle.demangle_grammar.specs.CallText.{call_text}
 

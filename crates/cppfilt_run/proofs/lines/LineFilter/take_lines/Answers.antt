@@ -1,4 +1,4 @@
-use Rattle.std.proofs.Common.{◌++◌, List, ℕ, ◌∙◌, [], refl, ap, append-nil, append_assoc, sym}
+use Rattle.std.proofs.Common.{◌++◌, List, ℕ, ◌∙◌, [], ap, append_assoc, sym}
 use Rattle.cppfilt_run.specs.Owed.{ahead}
 use Rattle.cppfilt_run.proofs.MoveLaws.{refusal, cause-then}
 use Rattle.cppfilt_run.proofs.FilterLaws.{moves-line, begins-line, moves-rest, begins-rest, line-ended, cut-joins}
