@@ -40,7 +40,7 @@ def noticing(task):
             if differs:
                 found.append(k)
             unseen += differs is None
-            if len(found) == enough or unseen == UNSEEN:
+            if enough and (len(found) == enough or unseen == UNSEEN):
                 break
     return number, found
 

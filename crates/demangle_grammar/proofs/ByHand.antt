@@ -2,6 +2,7 @@
 use Rattle.std.specs.Prelude.{true, false, [], ◌∷◌, codes, pos, negsuc}
 use Rattle.std.proofs.Common.{refl}
 use Rattle.demangle_text.specs.Kind.{End, Text, Bad, Over}
+use Rattle.demangle_text.specs.Characters.{sequence_len}
 use Rattle.demangle_core.specs.Core.{Tag, N, U, end, node, place, number, flag, chosen, ref, mark}
 use Rattle.demangle_core.specs.Table.{entry_at}
 use Rattle.demangle_grammar.specs.Rule.{Row}
@@ -372,3 +373,43 @@ ctor_dtor_name_2 = by_measure refl
 ctor_dtor_name_3 : Reads Row.ctor_dtor_name false (codes "CI2") (Refused End) 9
 unfolding measure_from run_rule rule entry_at
 ctor_dtor_name_3 = by_measure refl
+
+identifier_1 : Reads Row.identifier false (195 ∷ 169 ∷ []) (Read 2 (node Tag.Identifier (place 0 2 end) end) []) 1
+unfolding measure_from run_rule rule entry_at sequence_len
+identifier_1 = by_measure refl
+
+identifier_2 : Reads Row.identifier false (226 ∷ 130 ∷ 172 ∷ 46 ∷ []) (Read 4 (node Tag.Identifier (place 0 4 end) end) []) 1
+unfolding measure_from run_rule rule entry_at sequence_len
+identifier_2 = by_measure refl
+
+identifier_3 : Reads Row.identifier false (240 ∷ 159 ∷ 152 ∷ 128 ∷ []) (Read 4 (node Tag.Identifier (place 0 4 end) end) []) 1
+unfolding measure_from run_rule rule entry_at sequence_len
+identifier_3 = by_measure refl
+
+identifier_4 : Reads Row.identifier false (97 ∷ 237 ∷ 160 ∷ 128 ∷ []) (Read 1 (node Tag.Identifier (place 0 1 end) end) []) 1
+unfolding measure_from run_rule rule entry_at sequence_len
+identifier_4 = by_measure refl
+
+identifier_5 : Reads Row.identifier false (237 ∷ 160 ∷ 128 ∷ []) (Refused Text) 1
+unfolding measure_from run_rule rule entry_at sequence_len
+identifier_5 = by_measure refl
+
+identifier_6 : Reads Row.identifier false (192 ∷ 128 ∷ []) (Refused Text) 1
+unfolding measure_from run_rule rule entry_at sequence_len
+identifier_6 = by_measure refl
+
+identifier_7 : Reads Row.identifier false (244 ∷ 144 ∷ 128 ∷ 128 ∷ []) (Refused Text) 1
+unfolding measure_from run_rule rule entry_at sequence_len
+identifier_7 = by_measure refl
+
+identifier_8 : Reads Row.identifier false (195 ∷ []) (Refused Text) 1
+unfolding measure_from run_rule rule entry_at sequence_len
+identifier_8 = by_measure refl
+
+identifier_9 : Reads Row.identifier false (224 ∷ 159 ∷ 191 ∷ []) (Refused Text) 1
+unfolding measure_from run_rule rule entry_at sequence_len
+identifier_9 = by_measure refl
+
+identifier_10 : Reads Row.identifier false (239 ∷ 191 ∷ 191 ∷ []) (Read 3 (node Tag.Identifier (place 0 3 end) end) []) 1
+unfolding measure_from run_rule rule entry_at sequence_len
+identifier_10 = by_measure refl
