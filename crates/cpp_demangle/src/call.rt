@@ -5,7 +5,8 @@ ghost use Rattle.demangle_text.specs.Spot.{spot};
 ghost use Rattle.cpp_demangle.specs.Letter.{IsLetter};
 ghost use Rattle.demangle_vocab.specs.WordTable.{word_read};
 ghost use Rattle.demangle_vocab.specs.Builtins.{builtin_words};
-ghost use Rattle.demangle_grammar.specs.CallText.{call_text, call_with, identifier_of, is_identifier, joined, letter_text, further_types, type_texts, source_name};
+ghost use Rattle.demangle_grammar.specs.CallText.{call_text, call_with, identifier_of, is_identifier, joined};
+ghost use Rattle.demangle_grammar.specs.CallText.{letter_text, further_types, type_texts, source_name};
 
 use demangle_text::{IndexStr, consume, identifier_len, identifier_str, parse_unsigned};
 use demangle_vocab::StandardBuiltinType;

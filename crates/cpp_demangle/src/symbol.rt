@@ -20,7 +20,8 @@ pub enum SymbolFault {
 /// The text of a linker name, whole. Both options have to be the defaults, and the name that of a plain function, with
 /// one-letter builtin types alone: `_Z3fooib` is `foo(int, bool)`.
 ///
-/// `NotBuilt` comes exactly where the name or an option is another, `OutOfMemory` where there is no memory for the text.
+/// `NotBuilt` comes exactly where the name or an option is another, `OutOfMemory` where there is no memory for the
+/// text.
 pub fn demangle_symbol(
     alloc: Global,
     bytes: &[u8],

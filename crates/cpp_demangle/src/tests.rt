@@ -4,7 +4,8 @@ use crate::error::SinkFault;
 use crate::{DemangleOptions, ParseOptions, SymbolFault, demangle_symbol};
 use std::alloc::{AllocError, AllocFailed, Global};
 
-/// Plain functions' names, and their texts: each builtin type of one letter, in the ABI's order (section 5.1.5.2), and names of several.
+/// Plain functions' names, and their texts: each builtin type of one letter, in the ABI's order (section 5.1.5.2), and
+/// names of several.
 const TEXTS: [(&[u8], &str); 33] = [
     (b"_Z1fv", "f()"),
     (b"_Z1fw", "f(wchar_t)"),

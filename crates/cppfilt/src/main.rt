@@ -1,19 +1,8 @@
 //! The program `cppfilt`: it writes its input again, each line that is the name of a function as its text.
 #![tactic(auto)]
 
-use cppfilt_run::run::run;
-use cppfilt_run::standard::{StdSink, StdSource};
-use cppfilt_run::status::Status;
-use cppfilt_run::words::words;
-use std::process::ExitCode;
+use cppfilt_run::program::{Ended, start};
 
-fn main(rt: HostRuntime) -> ExitCode {
-    let mut input = StdSource::new(rt.stdin());
-    let mut output = StdSink::new(rt.stdout());
-    let mut errors = StdSink::new(rt.stderr());
-    let status = match words(&rt) {
-        Ok(words) => run(rt.alloc(), words, &mut input, &mut output, &mut errors),
-        Err(_) => Status::OutOfMemory,
-    };
-    status.exit_code()
+fn main(rt: HostRuntime) -> Ended {
+    start(&rt, rt.stdin(), rt.stdout(), rt.stderr())
 }

@@ -1,5 +1,7 @@
 -- Laws on what a sink was given of what is owed, whatever comes behind.
-use Rattle.std.proofs.Common.{[], ◌∷◌, ◌⊎◌, inl, inr, append-nil, take, drop, take-append-drop, ◌≤◌, arith, ◌<◌, true, false, length-append, ◌≡◌, ℕ, ◌+◌, Bool, List, ◌++◌, length, refl, sym, ap, ◌∙◌, append_assoc}
+use Rattle.std.proofs.Common.{[], ◌∷◌, ◌⊎◌, inl, inr, append-nil, take, drop, take-append-drop, ◌≤◌, arith, ◌<◌, true}
+use Rattle.std.proofs.Common.{false, length-append, ◌≡◌, ℕ, ◌+◌, Bool, List, ◌++◌, length, refl, sym, ap, ◌∙◌}
+use Rattle.std.proofs.Common.{append_assoc}
 use Rattle.std.specs.Prelude.{Option}
 use Rattle.demangle_grammar.specs.Lines.{before_feed, due, shown_line, line_limit}
 use Rattle.cppfilt_run.specs.Moves.{Moves, Begins}

@@ -1,5 +1,6 @@
 -- Laws on what a sink was given, one write after another.
-use Rattle.std.proofs.Common.{subst, Result, Ok, Err, ◌≡◌, ℕ, List, [], ◌++◌, length, take, drop, refl, sym, ap, ◌∙◌, append_assoc, take-append-drop, ◌-◌, arith}
+use Rattle.std.proofs.Common.{subst, Result, Ok, Err, ◌≡◌, ℕ, List, [], ◌++◌, length, take, drop, refl, sym, ap, ◌∙◌}
+use Rattle.std.proofs.Common.{append_assoc, take-append-drop, ◌-◌, arith}
 use Rattle.std.proofs.lemmas.Grind.{common_steps}
 use Rattle.std.specs.Prelude.{Option}
 use Rattle.std.specs.Io.KnownBytes.{Appends, Keeps}
@@ -61,12 +62,6 @@ moves-tail a b c n x y p q =
 pub flushed : (a b : Option (List ℕ)) (x more : List ℕ) → Moves a b x [] → Moves a b (x ++ more) more
 flushed a b x more p = moves-more a b x [] more p
 
-pub flushed-then : (a b c : Option (List ℕ)) (x more y : List ℕ) → Moves a b x [] → Moves b c more y → Moves a c (x ++ more) y
-flushed-then a b c x more y p q = moves-then a b c (x ++ more) more y (flushed a b x more p) q
-
-pub flushed-begins : (a b c : Option (List ℕ)) (x more : List ℕ) → Moves a b x [] → Begins b c more → Begins a c (x ++ more)
-flushed-begins a b c x more p q = begins-then a b c (x ++ more) more (flushed a b x more p) q
-
 -- two pieces, one behind the other
 pub begins-first : (a b : Option (List ℕ)) (x p q : List ℕ) → Begins a b (x ++ p) → Begins a b (x ++ (p ++ q))
 begins-first a b x p q m = rw (← append_assoc x p q) (begins-more a b (x ++ p) q m)
@@ -94,11 +89,6 @@ pub gives-then : {T : Type 0} (a b c : Option (List ℕ)) (w0 w1 w2 : ℕ) (r : 
 gives-then a b c w0 w1 w2 (Ok u) x y z p q = (q.0 ∙ p.0, moves-then a b c x y z p.1 q.1)
 gives-then a b c w0 w1 w2 (Err fault.Failed) x y z p q = (rw (← p.0) q.0, begins-then a b c x y p.1 q.1)
 gives-then a b c w0 w1 w2 (Err fault.OutOfMemory) x y z p q = (q.0 ∙ p.0, begins-then a b c x y p.1 q.1)
-
--- bytes that come behind
-pub gives-more : {T : Type 0} (a b : Option (List ℕ)) (w0 w1 : ℕ) (r : Result T SinkFault) (x y more : List ℕ) → Gives a b w0 w1 r x y → Gives a b w0 w1 r (x ++ more) (y ++ more)
-gives-more a b w0 w1 (Ok u) x y more g = (g.0, moves-more a b x y more g.1)
-gives-more a b w0 w1 (Err e) x y more g = (g.0, begins-more a b x more g.1)
 
 -- two pieces, one behind the other
 pub gives-both : {T : Type 0} (a b c : Option (List ℕ)) (w0 w1 w2 : ℕ) (r : Result T SinkFault) (x p q y z : List ℕ) → (w1 ≡ w0) × Moves a b (x ++ p) y → Gives b c w1 w2 r (y ++ q) z → Gives a c w0 w2 r (x ++ (p ++ q)) z

@@ -1,11 +1,14 @@
 -- Laws on what is owed behind a line that isn't complete.
-use Rattle.std.proofs.Common.{◌≡◌, ℕ, ◌+◌, ◌<◌, ◌≤◌, Bool, true, false, cond, eqb, not, List, [], ◌∷◌, ◌++◌, length, take, drop, refl, sym, ap, ◌∙◌, append_assoc, append-nil, arith, rules, tests, length-append, take-append-drop}
+use Rattle.std.proofs.Common.{◌≡◌, ℕ, ◌+◌, ◌<◌, ◌≤◌, Bool, true, false, cond, eqb, not, List, [], ◌∷◌, ◌++◌, length}
+use Rattle.std.proofs.Common.{take, drop, refl, sym, ap, ◌∙◌, append_assoc, append-nil, arith, rules, tests}
+use Rattle.std.proofs.Common.{length-append, take-append-drop}
 use Rattle.std.proofs.lemmas.List.Folds.{prefix_len-append}
 use Rattle.std.proofs.lemmas.List.Sums.{prefix_len-le-length}
 use Rattle.std.proofs.lemmas.Bool.{true≢false, false≢true}
 use Rattle.std.proofs.Math.Seq.{take-append_seam, drop-append_seam}
-use Rattle.demangle_grammar.specs.Lines.{before_feed, due, shown_line, line_limit, unfinished}
-use Rattle.demangle_grammar.proofs.LineLaws.{first-ended, due-held, due-last, long-line, before_feed-append, unfinished-goes_on, unfinished-closes}
+use Rattle.demangle_grammar.specs.Lines.{before_feed, due, shown_line, line_limit}
+use Rattle.demangle_grammar.proofs.LineLaws.{first-ended, due-held, due-last, long-line, before_feed-append}
+use Rattle.demangle_grammar.proofs.LineLaws.{unfinished-goes_on, unfinished-closes}
 use Rattle.cppfilt_run.specs.Owed.{passed, owed, completed, Kept}
 
 passed-at : (b : ℕ) (bs : List ℕ) → passed (b ∷ bs) ≡ b ∷ cond (eqb b 10) (due bs) (passed bs)
@@ -117,8 +120,5 @@ kept-held true held seen front off unended within k = absurd (true≢false off)
 kept-held false held seen front off unended within k = (rw (unfinished-goes_on seen front unended, ← k.0) refl, rw length-append within)
 
 -- one piece after another
-pub kept-start : (passing : Bool) (held seen : List ℕ) → Kept passing held seen → Kept passing held (seen ++ [])
-kept-start passing held seen k = rw append-nil k
-
 pub kept-more : (passing : Bool) (held seen front line : List ℕ) → Kept passing held ((seen ++ front) ++ line) → Kept passing held (seen ++ (front ++ line))
 kept-more passing held seen front line k = rw (← append_assoc seen front line) k

@@ -1,12 +1,14 @@
 -- Laws on a whole run: what holds of it by how its input part stopped, and by what was reported then.
-use Rattle.std.proofs.Common.{◌≡◌, ◌⊎◌, inl, inr, ℕ, ◌+◌, ◌-◌, ◌^◌, ◌<◌, ◌≤◌, List, [], ◌++◌, length, length-append, append-nil, take, ap, ◌∙◌, arith}
+use Rattle.std.proofs.Common.{◌≡◌, ◌⊎◌, inl, inr, ℕ, ◌+◌, ◌-◌, ◌^◌, ◌<◌, ◌≤◌, List, length, length-append, append-nil}
+use Rattle.std.proofs.Common.{take, arith}
 use Rattle.std.specs.Prelude.{Option, Some, None, IfSome}
 use Rattle.std.specs.Io.KnownBytes.{Appends, IsAtEnd}
 use Rattle.demangle_grammar.specs.Lines.{due, due_so_far}
 use Rattle.cppfilt_run.specs.Causes.{Rose, NoFault}
 use Rattle.cppfilt_run.specs.Outcome.{OfTaken, Stopped}
 use Rattle.cppfilt_run.specs.declared.status.Status.{Status}
-use Rattle.cppfilt_run.specs.declared.status.Status.TheVariants.{Done, Usage, ReadFault, WriteFault, InputTooLong, OutOfMemory}
+use Rattle.cppfilt_run.specs.declared.status.Status.TheVariants.{Done, Usage, ReadFault, WriteFault, InputTooLong}
+use Rattle.cppfilt_run.specs.declared.status.Status.TheVariants.{OutOfMemory}
 
 abbrev Bytes : Type 0
 Bytes = Option (List ℕ)

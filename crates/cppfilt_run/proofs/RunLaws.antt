@@ -1,5 +1,7 @@
 -- Laws on a run over an input: how it goes on, and how it stops.
-use Rattle.std.proofs.Common.{Bool, true, false, subst, ◌≡◌, ◌⊎◌, inl, inr, ℕ, ◌+◌, ◌-◌, ◌^◌, ◌<◌, ◌≤◌, min, List, [], ◌++◌, length, take, refl, sym, ap, ◌∙◌, append_assoc, append-nil, arith, length-append, Err}
+use Rattle.std.proofs.Common.{Bool, true, false, subst, ◌≡◌, ◌⊎◌, inl, inr, ℕ, ◌+◌, ◌-◌, ◌^◌, ◌<◌, ◌≤◌, min, List, []}
+use Rattle.std.proofs.Common.{◌++◌, length, take, refl, sym, ap, ◌∙◌, append_assoc, append-nil, arith, length-append}
+use Rattle.std.proofs.Common.{Err}
 use Rattle.std.specs.Prelude.{Option, Some, None, IfSome}
 use Rattle.std.specs.Io.KnownBytes.{Appends, Consumes, Keeps, IsAtEnd}
 use Rattle.std.proofs.lemmas.Bool.{cases_lt}
@@ -16,7 +18,8 @@ use Rattle.cppfilt_run.specs.Outcome.{OfTaken, KeepsUp, Going, Stopped, Finished
 use Rattle.cppfilt_run.specs.Owed.{passed, ahead, Kept, block_limit}
 use Rattle.cppfilt_run.specs.Statuses.{refusal_status}
 use Rattle.cppfilt_run.specs.declared.status.Status.{Status}
-use Rattle.cppfilt_run.specs.declared.status.Status.TheVariants.{Done, Usage, ReadFault, WriteFault, InputTooLong, OutOfMemory}
+use Rattle.cppfilt_run.specs.declared.status.Status.TheVariants.{Done, Usage, ReadFault, WriteFault, InputTooLong}
+use Rattle.cppfilt_run.specs.declared.status.Status.TheVariants.{OutOfMemory}
 use Rattle.cppfilt_run.proofs.MoveLaws.{moves-none, moves-then, begins, begins-then, begins-none}
 use Rattle.cppfilt_run.proofs.OwedLaws.{passed-nil}
 
@@ -28,8 +31,8 @@ Bytes = Option (List ℕ)
 starts : (out : Bytes) (gathered : List ℕ) (passing : Bool) (held : List ℕ) → (held ≡ []) × (passing ≡ false) × (gathered ≡ []) → (more : List ℕ) → Moves out out (due more) (ahead gathered passing held more)
 starts out gathered passing held e more = rw (e.2, e.1, e.0) (moves-none out (due more))
 
-kept-start : (passing : Bool) (held : List ℕ) → (held ≡ []) × (passing ≡ false) → Kept passing held []
-kept-start passing held e = rw (e.1, e.0) (sym unfinished-nil, omega arith)
+kept-nothing : (passing : Bool) (held : List ℕ) → (held ≡ []) × (passing ≡ false) → Kept passing held []
+kept-nothing passing held e = rw (e.1, e.0) (sym unfinished-nil, omega arith)
 
 pub going-start : (limit r w t : ℕ) (left out : Bytes) (gathered : List ℕ) (passing : Bool) (held : List ℕ) → (held ≡ []) × (passing ≡ false) × (gathered ≡ []) → Going limit r r w w t t left left out out gathered passing held 0
 going-start limit r w t left out gathered passing held fresh = record {
@@ -43,7 +46,7 @@ going-start limit r w t left out gathered passing held fresh = record {
   consumes = Consumes-nil left;
   moves = starts out gathered passing held fresh;
   flushed = fresh.2;
-  kept = kept-start passing held (fresh.0, fresh.1);
+  kept = kept-nothing passing held (fresh.0, fresh.1);
 }
 
 at-least : (t sum more : ℕ) → more ≡ sum → (min more (2 ^ 64 - 1) ≡ sum) ⊎ (2 ^ 64 - 1 ≤ min more (2 ^ 64 - 1))

@@ -15,8 +15,9 @@ pub record Begins (old new : Option (List ℕ)) (whole : List ℕ) : Type 0 wher
   pub after : List ℕ
   pub moves : Moves old new whole after
 
--- What a call gave to its sink of the bytes that are due: on Ok a front of them, with `after` still due, else some front of them;
--- and the sink's count of faults rose only where the sink failed.
-abbrev pub Gives : {T : Type 0} → (old new : Option (List ℕ)) → (faults0 faults1 : ℕ) → Result T SinkFault → (before after : List ℕ) → Type 0
+-- What a call gave to its sink of the bytes that are due: on Ok a front of them, with `after` still due, else some front of
+-- them; and the sink's count of faults rose only where the sink failed.
+abbrev pub Gives : {T : Type 0} → (old new : Option (List ℕ)) → (faults0 faults1 : ℕ) → Result T SinkFault
+    → (before after : List ℕ) → Type 0
 Gives old new f0 f1 (Ok x) before after = (f1 ≡ f0) × Moves old new before after
 Gives {T = T} old new f0 f1 (Err e) before after = SinkCause {T = T} f0 f1 (Err e) × Begins old new before

@@ -1,12 +1,14 @@
 -- What a run over an input did, as far as it came.
-use Rattle.std.specs.Prelude.{◌≡◌, ◌⊎◌, ℕ, ◌+◌, ◌^◌, ◌-◌, ◌<◌, ◌≤◌, Bool, List, [], ◌++◌, length, take, Option, Some, None, IfSome, ⊤}
+use Rattle.std.specs.Prelude.{◌≡◌, ◌⊎◌, ℕ, ◌+◌, ◌^◌, ◌-◌, ◌<◌, ◌≤◌, Bool, List, [], ◌++◌, length, take, Option, Some}
+use Rattle.std.specs.Prelude.{None, IfSome, ⊤}
 use Rattle.std.specs.Io.KnownBytes.{Appends, Consumes, IsAtEnd}
 use Rattle.demangle_grammar.specs.Lines.{due, due_so_far}
 use Rattle.cppfilt_run.specs.Causes.{Rose}
 use Rattle.cppfilt_run.specs.Moves.{Moves, Begins}
 use Rattle.cppfilt_run.specs.Owed.{ahead, Kept, block_limit}
 use Rattle.cppfilt_run.specs.declared.status.Status.{Status}
-use Rattle.cppfilt_run.specs.declared.status.Status.TheVariants.{Done, Usage, ReadFault, WriteFault, InputTooLong, OutOfMemory}
+use Rattle.cppfilt_run.specs.declared.status.Status.TheVariants.{Done, Usage, ReadFault, WriteFault, InputTooLong}
+use Rattle.cppfilt_run.specs.declared.status.Status.TheVariants.{OutOfMemory}
 
 -- ---- what was taken and what was written
 -- what holds of the bytes that were taken, where the source tells its bytes
@@ -35,17 +37,20 @@ Faults _ r0 r1 w0 w1 = (r1 ≡ r0) × (w1 ≡ w0)
 -- how many bytes were taken, by the source's count and where it tells them: one more than the limit, or at most so many
 abbrev pub Amount : Status → (limit taken0 taken1 : ℕ) → (left0 left1 : Option (List ℕ)) → Type 0
 Amount InputTooLong limit t0 t1 left0 left1 =
-    ((t0 + limit < t1) ⊎ (2 ^ 64 - 1 ≤ t1)) × (t1 ≤ t0 + limit + 1) × OfTaken left0 left1 (λ taken. length taken ≡ limit + 1)
+    ((t0 + limit < t1) ⊎ (2 ^ 64 - 1 ≤ t1)) × (t1 ≤ t0 + limit + 1)
+    × OfTaken left0 left1 (λ taken. length taken ≡ limit + 1)
 Amount _ limit t0 t1 left0 left1 = (t1 ≤ t0 + limit) × OfTaken left0 left1 (λ taken. length taken ≤ limit)
 
 -- what was written, where the status tells it
 abbrev pub Written : Status → (limit : ℕ) → (left0 left1 out0 out1 : Option (List ℕ)) → Type 0
 Written Done limit left0 left1 out0 out1 = IsAtEnd left1 × IfSome left0 (λ input. Appends out0 out1 (due input))
 Written ReadFault limit left0 left1 out0 out1 = OfTaken left0 left1 (λ taken. Appends out0 out1 (due_so_far taken))
-Written InputTooLong limit left0 left1 out0 out1 = IfSome left0 (λ input. Appends out0 out1 (due_so_far (take limit input)))
+Written InputTooLong limit left0 left1 out0 out1 =
+    IfSome left0 (λ input. Appends out0 out1 (due_so_far (take limit input)))
 Written _ limit left0 left1 out0 out1 = ⊤
 
-pub record Stopped (status : Status) (limit read0 read1 write0 write1 taken0 taken1 : ℕ) (left0 left1 out0 out1 : Option (List ℕ)) : Type 0 where
+pub record Stopped (status : Status) (limit read0 read1 write0 write1 taken0 taken1 : ℕ)
+    (left0 left1 out0 out1 : Option (List ℕ)) : Type 0 where
   pub faults : Faults status read0 read1 write0 write1
   pub amount : Amount status limit taken0 taken1 left0 left1
   pub front : IfSome left0 (λ input. Begins out0 out1 (due input))
@@ -54,7 +59,8 @@ pub record Stopped (status : Status) (limit read0 read1 write0 write1 taken0 tak
 
 -- ---- how a run goes on
 -- how it goes, with so many bytes taken, and with nothing due but for the bytes that are kept
-pub record Going (limit read0 read1 write0 write1 taken0 taken1 : ℕ) (left0 left1 out0 out1 : Option (List ℕ)) (gathered : List ℕ) (passing : Bool) (held : List ℕ) (count : ℕ) : Type 0 where
+pub record Going (limit read0 read1 write0 write1 taken0 taken1 : ℕ) (left0 left1 out0 out1 : Option (List ℕ))
+    (gathered : List ℕ) (passing : Bool) (held : List ℕ) (count : ℕ) : Type 0 where
   pub reads : read1 ≡ read0
   pub writes : write1 ≡ write0
   pub at_least : (taken1 ≡ taken0 + count) ⊎ (2 ^ 64 - 1 ≤ taken1)

@@ -1,5 +1,6 @@
 -- What is owed for the bytes behind a line that isn't complete yet.
-use Rattle.std.specs.Prelude.{◌≡◌, ◌+◌, ◌<◌, ◌≤◌, length, ℕ, Bool, true, false, List, [], ◌∷◌, ◌++◌, ◌==◌, if◌then◌else◌}
+use Rattle.std.specs.Prelude.{◌≡◌, ◌+◌, ◌<◌, ◌≤◌, length, ℕ, Bool, true, false, List, [], ◌∷◌, ◌++◌, ◌==◌}
+use Rattle.std.specs.Prelude.{if◌then◌else◌}
 use Rattle.demangle_grammar.specs.Lines.{due, shown_line, line_limit, unfinished}
 
 -- behind the front of a line that is too long to be asked: the line's rest as it is, and then what is due
@@ -25,7 +26,8 @@ ahead gathered passing held bytes = gathered ++ owed passing held bytes
 abbrev pub block_limit : ℕ
 block_limit = 65536
 
--- what is kept of the bytes that have come: those of the line that isn't complete, or that they are too many for it to be asked
+-- what is kept of the bytes that have come: those of the line that isn't complete, or only that they are too many for it to
+-- be asked
 abbrev pub Kept : (passing : Bool) → (held seen : List ℕ) → Type 0
 Kept true held seen = line_limit + 2 < length (unfinished seen)
 Kept false held seen = (held ≡ unfinished seen) × (length held ≤ line_limit + 2)

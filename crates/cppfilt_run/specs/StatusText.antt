@@ -1,7 +1,8 @@
 -- The codes of the statuses, and what is written for them.
 use Rattle.std.specs.Prelude.{ℕ, List, [], ◌∷◌, ◌++◌, codes}
 use Rattle.cppfilt_run.specs.declared.status.Status.{Status}
-use Rattle.cppfilt_run.specs.declared.status.Status.TheVariants.{Done, Usage, ReadFault, WriteFault, InputTooLong, OutOfMemory}
+use Rattle.cppfilt_run.specs.declared.status.Status.TheVariants.{Done, Usage, ReadFault, WriteFault, InputTooLong}
+use Rattle.cppfilt_run.specs.declared.status.Status.TheVariants.{OutOfMemory}
 
 -- the process's exit status
 abbrev pub code_of : Status → ℕ

@@ -22,8 +22,8 @@ pub trait Source {
     /// How many bytes were taken, which every source tells. The count stands still at its last value.
     ghost taken: { Self → ℕ };
 
-    /// Moves the first bytes that are left into `buf` and answers how many: none for a buffer with room only where nothing
-    /// is left. `Failed` comes only where the source's count of faults rose, and then nothing was taken.
+    /// Moves the first bytes that are left into `buf` and answers how many: none for a buffer with room only where
+    /// nothing is left. `Failed` comes only where the source's count of faults rose, and then nothing was taken.
     fn read(&mut self, buf: &mut [u8]) -> Result<usize, Failed>
         ensures bound { ReadsAtMost result buf.new }
         ensures bytes { ReadConsumes (left self.old) (left self.new) result buf.new }
@@ -39,8 +39,8 @@ pub trait Sink {
     /// How often a write has failed. The count never falls, and stands still at its last value.
     ghost faults: { Self → ℕ };
 
-    /// Appends the first bytes of `piece` and answers how many: at least one, where there is one. `Failed` comes only where
-    /// the sink's count of faults rose; a refusal appends nothing.
+    /// Appends the first bytes of `piece` and answers how many: at least one, where there is one. `Failed` comes only
+    /// where the sink's count of faults rose; a refusal appends nothing.
     fn write(&mut self, piece: &[u8]) -> Result<usize, SinkFault>
         ensures bound { IfOk result (λ n. n ≤ length piece.now) }
         ensures advances { IfOk result (λ n. 0 < length piece.now → 0 < n) }

@@ -7,6 +7,7 @@ pub mod filter;
 mod lines;
 pub mod memory;
 mod output;
+pub mod program;
 pub mod run;
 pub mod standard;
 pub mod status;

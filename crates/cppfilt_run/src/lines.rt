@@ -1,6 +1,7 @@
 //! Lines: what a line becomes, and the cutting of blocks of input into lines.
 
-ghost use Rattle.std.specs.Prelude.{◌≡◌, ℕ, ◌+◌, ◌≤◌, List, [], ◌∷◌, ◌++◌, length, take, OnOk, IfOk, unwrap_or, vec_len, ◌<◌, MatchOption, false, slice_index, ◌==◌, ◌||◌, fold, drop};
+ghost use Rattle.std.specs.Prelude.{◌≡◌, ℕ, ◌+◌, ◌≤◌, List, [], ◌∷◌, ◌++◌, length, take, OnOk, IfOk, unwrap_or};
+ghost use Rattle.std.specs.Prelude.{vec_len, ◌<◌, MatchOption, false, slice_index, ◌==◌, ◌||◌, fold, drop};
 ghost use Rattle.std.specs.Option.{option_map};
 ghost use Rattle.demangle_grammar.specs.Lines.{before_feed, body, shown, shown_line, due, ending};
 ghost use Rattle.cppfilt_run.specs.Moves.{Gives};
@@ -206,7 +207,8 @@ pub(crate) struct LineFilter {
 impl LineFilter {
     /// A filter at the beginning of a line, with room for what it may keep.
     pub(crate) fn new(alloc: Global) -> Result<LineFilter, AllocError>
-        ensures { IfOk result (λ filter. (filter.held.items ≡ []) × (filter.passing ≡ false) × (filter.pending.items ≡ [])) }
+        ensures { IfOk result
+            (λ filter. (filter.held.items ≡ []) × (filter.passing ≡ false) × (filter.pending.items ≡ [])) }
     {
         Ok(LineFilter {
             alloc,

@@ -26,8 +26,8 @@ pub(crate) fn write_all<W: Sink>(output: &mut W, bytes: &[u8]) -> Result<(), Sin
 /// Writes what is gathered, and gathers anew.
 #[tactic(auto, using(crate::proofs::MoveLaws::move_laws))]
 pub(crate) fn flush<W: Sink>(output: &mut W, pending: &mut Vec<u8>) -> Result<(), SinkFault>
-    ensures gives { Gives (W.written output.old) (W.written output.new) (W.faults output.old) (W.faults output.new) result
-        pending.old.items [] }
+    ensures gives { Gives (W.written output.old) (W.written output.new)
+        (W.faults output.old) (W.faults output.new) result pending.old.items [] }
     ensures gathered { OnOk result (pending.new.items ≡ []) }
 {
     write_all(output, pending.as_slice())?;

@@ -21,9 +21,11 @@ const INPUT_LIMIT: u64 = 1 << 40;
 /// Writes the input again, each line that is the name of a function as its text, and tells faults on `errors`.
 ///
 /// `words` are the words after the program's name: none is taken yet. A line is cut after each line feed; one carriage
-/// return before it, or at the end of a last line without one, is set aside. Each line is written before the next read.
-/// `Usage` comes exactly where a word is given, before any read or write; `ReadFault` and `WriteFault` where an end failed;
-/// `InputTooLong` where 2^40 bytes were taken and a further read gave bytes; `OutOfMemory` where memory is wanting.
+/// return before it, or at the end of a last line without one, is set aside. What is complete is written before the next
+/// read; of a line that isn't complete nothing is, unless it has more bytes than a line that may be asked: then it is
+/// written as it comes. `Usage` comes exactly where a word is given, before any read or write; `ReadFault` and
+/// `WriteFault` where an end failed; `InputTooLong` where 2^40 bytes were taken and a further read gave bytes;
+/// `OutOfMemory` where memory is wanting.
 pub fn run<R: Source, W: Sink, E: Sink>(
     alloc: Global,
     words: Vec<String>,
@@ -35,9 +37,11 @@ pub fn run<R: Source, W: Sink, E: Sink>(
     ensures done { result ≡ Status.Done → IsAtEnd (R.left input.new)
         × IfSome (R.left input.old) (λ bytes. Appends (W.written output.old) (W.written output.new) (due bytes)) }
     // Whatever the status is, a front of what is due was written and nothing else,
-    ensures front { IfSome (R.left input.old) (λ bytes. Begins (W.written output.old) (W.written output.new) (due bytes)) }
+    ensures front { IfSome (R.left input.old)
+        (λ bytes. Begins (W.written output.old) (W.written output.new) (due bytes)) }
     // and all that is due so far for the bytes that were taken but a last block of at most 2^16.
-    ensures keeps_up { OfTaken (R.left input.old) (R.left input.new) (KeepsUp (W.written output.old) (W.written output.new)) }
+    ensures keeps_up { OfTaken (R.left input.old) (R.left input.new)
+        (KeepsUp (W.written output.old) (W.written output.new)) }
     // After a failed read it is just what is due so far for the bytes that were taken,
     ensures read_fault_written { result ≡ Status.ReadFault → OfTaken (R.left input.old) (R.left input.new)
         (λ taken. Appends (W.written output.old) (W.written output.new) (due_so_far taken)) }
@@ -47,7 +51,8 @@ pub fn run<R: Source, W: Sink, E: Sink>(
     // With no fault, an input of at most 2^40 bytes is filtered to its end, but for want of memory,
     ensures complete { vec_len words ≡ 0 → NoFault (R.faults input.old) (R.faults input.new)
         → NoFault (W.faults output.old) (W.faults output.new)
-        → IfSome (R.left input.old) (λ bytes. length bytes ≤ 2 ^ 40 → (result ≡ Status.Done) ⊎ (result ≡ Status.OutOfMemory)) }
+        → IfSome (R.left input.old)
+        (λ bytes. length bytes ≤ 2 ^ 40 → (result ≡ Status.Done) ⊎ (result ≡ Status.OutOfMemory)) }
     // and a longer one is refused.
     ensures refused { vec_len words ≡ 0 → NoFault (R.faults input.old) (R.faults input.new)
         → NoFault (W.faults output.old) (W.faults output.new)
@@ -55,9 +60,9 @@ pub fn run<R: Source, W: Sink, E: Sink>(
         (λ bytes. 2 ^ 40 < length bytes → (result ≡ Status.InputTooLong) ⊎ (result ≡ Status.OutOfMemory)) }
     ensures usage { result ≡ Status.Usage → 0 < vec_len words }
     ensures words_refused { 0 < vec_len words → (result ≡ Status.Usage) ⊎ (result ≡ Status.OutOfMemory) }
-    ensures words_first { 0 < vec_len words → (R.left input.new ≡ R.left input.old) × (R.taken input.new ≡ R.taken input.old)
-        × (R.faults input.new ≡ R.faults input.old) × (W.written output.new ≡ W.written output.old)
-        × (W.faults output.new ≡ W.faults output.old) }
+    ensures words_first { 0 < vec_len words → (R.left input.new ≡ R.left input.old)
+        × (R.taken input.new ≡ R.taken input.old) × (R.faults input.new ≡ R.faults input.old)
+        × (W.written output.new ≡ W.written output.old) × (W.faults output.new ≡ W.faults output.old) }
     ensures read_fault { result ≡ Status.ReadFault → Rose (R.faults input.old) (R.faults input.new) }
     ensures read_fault_told { R.faults input.old < R.faults input.new
         → (result ≡ Status.ReadFault) ⊎ (result ≡ Status.OutOfMemory) }

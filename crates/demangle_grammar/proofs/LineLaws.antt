@@ -1,12 +1,15 @@
 -- Laws on the lines of an input: what is due once a line feed is seen, at the end, and behind a line that is too long.
-use Rattle.std.proofs.Common.{eq-eqb, get_or, ◌≡◌, ℕ, suc, ◌+◌, ◌-◌, ◌<◌, ◌≤◌, Bool, true, false, cond, eqb, ltb, not, List, [], ◌∷◌, ◌++◌, length, take, drop, refl, sym, ap, ◌∙◌, append_assoc, append-nil, fold, arith, rules, length-append, length-take-le, take-append-drop, nat_le, tests}
+use Rattle.std.proofs.Common.{eq-eqb, get_or, ◌≡◌, ℕ, suc, ◌+◌, ◌-◌, ◌<◌, ◌≤◌, Bool, true, false, cond, eqb, ltb, not}
+use Rattle.std.proofs.Common.{List, [], ◌∷◌, ◌++◌, length, take, drop, refl, sym, ap, ◌∙◌, append_assoc, append-nil}
+use Rattle.std.proofs.Common.{fold, arith, rules, length-append, length-take-le, take-append-drop, nat_le, tests}
 use Rattle.std.proofs.lemmas.Grind.{common_steps}
 use Rattle.std.proofs.lemmas.List.Folds.{prefix_len-append}
 use Rattle.std.proofs.lemmas.List.Sums.{fold-append}
 use Rattle.std.proofs.Math.Seq.{take-append-add, drop-append-add, take-length, take-append_seam}
 use Rattle.std.specs.Prelude.{unwrap_or, None}
 use Rattle.demangle_grammar.specs.CallText.{call_text}
-use Rattle.demangle_grammar.specs.Lines.{before_feed, lines, onto_first, shown, shown_line, due, body, ending, without_last, line_limit, line_after, unfinished, complete, due_so_far}
+use Rattle.demangle_grammar.specs.Lines.{before_feed, lines, onto_first, shown, shown_line, due, body, ending}
+use Rattle.demangle_grammar.specs.Lines.{without_last, line_limit, line_after, unfinished, complete, due_so_far}
 
 lines-at : (b : ℕ) (bs : List ℕ) → lines (b ∷ bs) ≡ cond (eqb b 10) ((b ∷ []) ∷ lines bs) (onto_first b (lines bs))
 unfolding lines

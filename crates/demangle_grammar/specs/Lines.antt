@@ -1,5 +1,6 @@
 -- The lines of an input, and what a line filter owes for them.
-use Rattle.std.specs.Prelude.{ℕ, ◌+◌, ◌-◌, List, [], ◌∷◌, ◌++◌, length, take, drop, slice_index, flat_map, nat_le, nat_lt, ◌==◌, if◌then◌else◌, unwrap_or, not, fold}
+use Rattle.std.specs.Prelude.{ℕ, ◌+◌, ◌-◌, List, [], ◌∷◌, ◌++◌, length, take, drop, slice_index, flat_map, nat_le}
+use Rattle.std.specs.Prelude.{nat_lt, ◌==◌, if◌then◌else◌, unwrap_or, not, fold}
 use Rattle.std.specs.List.{prefix_len}
 use Rattle.demangle_grammar.specs.CallText.{call_text}
 
@@ -56,7 +57,8 @@ unfinished input = fold line_after [] input
 abbrev pub complete : List ℕ → List ℕ
 complete input = take (length input - length (unfinished input)) input
 
--- What is due for an input, whatever comes behind it: what is due for its complete lines, and behind it the bytes of a line that
+-- What is due for an input, whatever comes behind it: what is due for its complete lines, and then the bytes of a line that
 -- isn't complete, where they are more than those of a line that may be asked and of an ending.
 unfoldable pub due_so_far : List ℕ → List ℕ
-due_so_far input = due (complete input) ++ (if nat_lt (line_limit + 2) (length (unfinished input)) then unfinished input else [])
+due_so_far input =
+    due (complete input) ++ (if nat_lt (line_limit + 2) (length (unfinished input)) then unfinished input else [])

@@ -21,7 +21,8 @@ pub fn read_substitution<'b>(
     input: IndexStr<'b>,
 ) -> Result<(Substitution, IndexStr<'b>)>
     ensures reads { let table = table_of subs.now in
-        AnswersRow tree_of_substitution Row.substitution (levels_left ctx.old) ctx.old.conversion input.entry result table }
+        AnswersRow tree_of_substitution Row.substitution
+        (levels_left ctx.old) ctx.old.conversion input.entry result table }
     ensures context { ctx.new ≡ ctx.old }
 {
     substitution(ctx.depth(), subs.len(), input)

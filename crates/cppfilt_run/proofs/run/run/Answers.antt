@@ -1,5 +1,7 @@
 use Rattle.cppfilt_run.proofs.RunLaws.{nothing-front, nothing-keeps_up, nothing-short}
-use Rattle.cppfilt_run.proofs.ReportLaws.{run-done, run-read-written, run-long-written, run-complete, run-refused, run-usage, run-read, run-read-told, run-write, run-write-told, run-long, run-long-told, run-long-bytes, run-long-bytes-told, run-at_most}
+use Rattle.cppfilt_run.proofs.ReportLaws.{run-done, run-read-written, run-long-written, run-complete, run-refused}
+use Rattle.cppfilt_run.proofs.ReportLaws.{run-usage, run-read, run-read-told, run-write, run-write-told, run-long}
+use Rattle.cppfilt_run.proofs.ReportLaws.{run-long-told, run-long-bytes, run-long-bytes-told, run-at_most}
 use Rattle.cppfilt_run.proofs.run.run.Goals as goal
 
 -- a word is given

@@ -1,8 +1,8 @@
-use Rattle.std.proofs.Common.{◌++◌, List, ℕ, ◌∙◌, [], refl, ap, append-nil, append_assoc, sym}
+use Rattle.std.proofs.Common.{◌++◌, List, ℕ, ◌∙◌, [], ap, append_assoc, sym}
 use Rattle.cppfilt_run.specs.Owed.{ahead}
-use Rattle.cppfilt_run.proofs.MoveLaws.{moves-none, refusal, cause-then}
+use Rattle.cppfilt_run.proofs.MoveLaws.{refusal, cause-then}
 use Rattle.cppfilt_run.proofs.FilterLaws.{moves-line, begins-line, moves-rest, begins-rest, line-ended, cut-joins}
-use Rattle.cppfilt_run.proofs.OwedLaws.{kept-start, kept-more}
+use Rattle.cppfilt_run.proofs.OwedLaws.{kept-more}
 use Rattle.cppfilt_run.proofs.lines.LineFilter.take_lines.Goals as goal
 
 pub complete-requires-clause-ended : goal.complete-requires-clause-ended
