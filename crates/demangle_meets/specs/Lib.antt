@@ -1,0 +1,5 @@
+pub mod Page
+pub mod Goes
+pub mod Place
+pub mod Calls
+pub mod Meets
