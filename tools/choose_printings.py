@@ -23,6 +23,8 @@ import choice
 import edits
 from printings import Printings
 
+FIRST = 6  # how many printings that notice an edit are looked for at first
+
 
 def main():
     parser = argparse.ArgumentParser(description=__doc__.split("\n")[0])
@@ -36,6 +38,7 @@ def main():
     print(len(subject.edits), "edits,", len(subject.given), "printings", flush=True)
     for line in subject.wrong:
         print("not as expected:", json.dumps(line, ensure_ascii=False))
+    choice.ENOUGH = FIRST
     search = choice.Search(subject, given.processes)
     if given.action == "choose":
         edits.choose(subject, search)

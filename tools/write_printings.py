@@ -34,7 +34,7 @@ UNFOLDED = {
     "Rattle.demangle_text.specs.Word": ["word_at"],
     "Rattle.demangle_text.specs.Number": ["number_from", "natural_from"],
     "Rattle.demangle_text.specs.Characters": ["sequence_len"],
-    "Rattle.demangle_vocab.specs.Table": ["word_read", "table_from"],
+    "Rattle.demangle_vocab.specs.WordTable": ["word_read", "table_from"],
     "Rattle.demangle_grammar.specs.Rows": ["rule"],
     "Rattle.demangle_grammar.specs.Code": [
         "eat_at", "taken_over", "many", "all_of", "rows_of", "turns", "turns_of", "taken_word", "cread"],

@@ -13,7 +13,7 @@ use Rattle.demangle_core.specs.Lookups.{leaf_name, template_args, is_special}
 use Rattle.demangle_grammar.specs.Sound.{is_substitutable, handle_of, HasHandles, IsComponent, EachEntry}
 use Rattle.demangle_grammar.specs.Expand.{Expanded, in_place, expand_with, expand_upto, expand}
 use Rattle.demangle_grammar.specs.Expand as expanded
-use Rattle.demangle_grammar.proofs.Expands.{Found, found}
+use Rattle.demangle_core.proofs.Earlier.{Earlier, earlier}
 use Rattle.demangle_printing.specs.World.{Seen}
 use Rattle.demangle_printing.specs.World as seen
 use Rattle.demangle_printing.specs.Trees.{trees_of, may_refer, look_component, look_in, with_table, expanded_of}
@@ -127,7 +127,7 @@ module _ (table : Table) (input : List ℕ) where
   bounded (suc n) e r p h q l c s a =
       shaped_row (Ref (suc n)) e
       (λ w i m.
-      let f : Found [] w i e r = found [] w i e r (subst (ReferBack []) p h) m in
+      let f : Earlier [] w i e r = earlier [] w i e r (subst (ReferBack []) p h) m in
       let there : entry_at w i table ≡ Some f.tree = ap (λ u. slice_get (listed w u) i) p ∙ f.there in
       component_ref n w i f.before f.tree there (each_listed IsComponent w table i f.tree q there) f.back
       (λ d u v. bounded n f.before f.rest (p ∙ f.parts) h q (omega (arith, f.shorter, l)) d u v)) c s a

@@ -5,7 +5,7 @@ use Rattle.std.specs.Str.{is_utf8}
 use Rattle.std.proofs.Common.{refl, ap, ◌∙◌, sym, subst, append-nil, append_assoc, true≢false}
 use Rattle.std.proofs.lemmas.Bool.{eq-eqb}
 use Rattle.demangle_core.specs.Core.{Tag}
-use Rattle.demangle_vocab.specs.Table.{text_at}
+use Rattle.demangle_vocab.specs.WordTable.{text_at}
 use Rattle.demangle_vocab.specs.Builtins.{builtins}
 use Rattle.demangle_printing.specs.World.{World, node, nth, parts_seen, find, see}
 use Rattle.demangle_printing.specs.State.{Held, State, Answer, yes, no, bind, last_of, is_byte, spaced, rest, popped}
