@@ -1,0 +1,3 @@
+pub mod Told
+pub mod Goes
+pub mod Steps

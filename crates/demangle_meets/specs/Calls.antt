@@ -40,7 +40,7 @@ pub record Returns (l count : ℕ) (a b : Page) : Type 0 where
 pub record SetsAside (a b : Page) (before : ℕ) : Type 0 where
   pub at_level : (l : ℕ) → Goes l a b (λ s. yes [] (record s { inner = [] })) (Unit {0})
   pub aside : a.trouble ≡ None → b.trouble ≡ None → b.aside ≡ a.inner ++ a.aside
-  pub before : a.trouble ≡ None → before ≡ length a.aside
+  pub count : a.trouble ≡ None → before ≡ length a.aside
 
 -- The items that were set aside behind so many are the items again.
 pub record BringsBack (before : ℕ) (a b : Page) : Type 0 where

@@ -1,5 +1,5 @@
 -- The one relation between two pages: from the first to the second this was done, whole or up to the first trouble.
-use Rattle.std.specs.Prelude.{◌≡◌, ℕ, zero, suc, ◌≤◌, ◌<◌, ◌⊎◌, ⊥, List, [], ◌∷◌, ◌++◌, Option, Some, None}
+use Rattle.std.specs.Prelude.{◌≡◌, ℕ, zero, suc, ◌≤◌, ◌<◌, ◌⊎◌, List, [], ◌∷◌, ◌++◌, Option, Some, None}
 use Rattle.demangle_core.specs.Core.{Core}
 use Rattle.demangle_printing.specs.State.{Event, closed, Fault, State, Answer, yes, no, after}
 use Rattle.demangle_printing.specs.Laws.{open_behind}
@@ -25,7 +25,7 @@ pub record Stopped (old new : List Event) (x : Answer Core) (f : Fault) : Type 0
   pub ended : ℕ
   pub is : x ≡ no before f
   pub told : new ≡ old ++ (before ++ ends ended)
-  pub open : StandOpen ended before
+  pub were_open : StandOpen ended before
 
 -- A front of the events, and then ends of nodes, no more than stood open.
 pub record Cut (old new : List Event) (x : Answer Core) : Type 0 where
@@ -34,7 +34,7 @@ pub record Cut (old new : List Event) (x : Answer Core) : Type 0 where
   pub ended : ℕ
   pub is : events x ≡ front ++ others
   pub told : new ≡ old ++ (front ++ ends ended)
-  pub open : StandOpen ended front
+  pub were_open : StandOpen ended front
 
 -- ---- the listener's counts
 -- the last value of a count, at which it stays
