@@ -1,3 +1,4 @@
 pub mod Told
 pub mod Goes
 pub mod Steps
+pub mod Acts

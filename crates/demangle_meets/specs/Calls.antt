@@ -8,18 +8,18 @@ use Rattle.demangle_meets.specs.Page.{Page, Trouble, at}
 use Rattle.demangle_meets.specs.Goes.{Goes, ends}
 
 -- The items that are set aside are as before.
-abbrev pub Keeps : Page → Page → Type 0
-Keeps a b = a.trouble ≡ None → b.trouble ≡ None → b.aside ≡ a.aside
+pub record Keeps (a b : Page) : Type 0 where
+  pub is : a.trouble ≡ None → b.trouble ≡ None → b.aside ≡ a.aside
 
 -- A step that depends on no level and takes no room: a text, a space, a fault, a flag, a name.
 pub record Steps (a b : Page) (go : State Core → Answer Core) : Type 0 where
   pub at_level : (l : ℕ) → Goes l a b go (Unit {0})
-  pub aside : Keeps a b
+  pub same : Keeps a b
 
 -- An item is pushed at a level.
 pub record Pushes (l : ℕ) (a b : Page) (x : Core) : Type 0 where
   pub goes : Goes l a b (λ s. yes [] (pushed x s)) (IsReady a.aside (at l a))
-  pub aside : Keeps a b
+  pub same : Keeps a b
 
 -- Whether the top item was pushed at this level: if so it is popped.
 abbrev pub PopsOwn : ℕ → Page → Page → Bool → Type 0
@@ -29,12 +29,12 @@ PopsOwn l a b false = (a.trouble ≡ None → is_own (at l a) ≡ false) × Step
 -- The top item is kept.
 pub record KeepsTop (l : ℕ) (a b : Page) (h : Held Core) : Type 0 where
   pub goes : Goes l a b (λ s. yes [] (keeping h s)) (IsReady a.aside (at l a))
-  pub aside : Keeps a b
+  pub same : Keeps a b
 
 -- The items that were kept since there were so many are items again.
 pub record Returns (l count : ℕ) (a b : Page) : Type 0 where
   pub goes : Goes l a b (λ s. yes [] (returned count s)) (IsReady a.aside (returned count (at l a)))
-  pub aside : Keeps a b
+  pub same : Keeps a b
 
 -- The items are set aside; so many were so before.
 pub record SetsAside (a b : Page) (before : ℕ) : Type 0 where
