@@ -45,7 +45,7 @@ then_act {p} {a} {m} {k = k} d same q left right =
     (goes_after (Ready p k a.aside) d n e (right v)))
 
 -- the same of a step that only changes the state
-quiet_then : {p : Place} {a m b : Page} {to : State Core → State Core} {S V : Type 0} {k : Act Core} →
+pub quiet_then : {p : Place} {a m b : Page} {to : State Core → State Core} {S V : Type 0} {k : Act Core} →
     Goes p.level a m (λ s. yes [] (to s)) S → Keeps a m → Meets p m b k → (V → S) →
     (V → Ready p k a.aside (to (at p.level a))) → Goes p.level a b (λ s. act (deeper p) k (to s)) V
 quiet_then d same q left right = goes_as (λ _. sym (after_none _)) (λ _ v. v) (then_act d same q left right)

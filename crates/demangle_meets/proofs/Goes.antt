@@ -15,7 +15,7 @@ pub no_trouble : {A : Type 0} (t : Trouble) (x : Option Trouble) → x ≡ None 
 no_trouble t x e f = absurd (let k : None ≡ Some t = sym e ∙ f in cc)
 
 -- ---- counts
-counts_then : {why : Loss} {i j k : ℕ} {x y z : Option Trouble} → ((t : Trouble) → x ≡ Some t → y ≡ Some t) →
+pub counts_then : {why : Loss} {i j k : ℕ} {x y z : Option Trouble} → ((t : Trouble) → x ≡ Some t → y ≡ Some t) →
     ((t : Trouble) → y ≡ Some t → z ≡ Some t) →
     Counts why i j x y → Counts why j k y z → Counts why i k x z
 counts_then {why} {i} {j} {k} {x} {y} {z} f g p q =

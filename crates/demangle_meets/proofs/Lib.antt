@@ -2,3 +2,5 @@ pub mod Told
 pub mod Goes
 pub mod Steps
 pub mod Acts
+pub mod Around
+pub mod Events
