@@ -13,6 +13,7 @@ use Rattle.demangle_meets.specs.Goes.{events, ends, StandOpen, Stopped, Cut, Cou
 use Rattle.demangle_meets.specs.Place.{Place, world_of}
 use Rattle.demangle_meets.specs.Calls.{Keeps, Begins, Ends, most_ended}
 use Rattle.demangle_meets.specs.Meets.{deeper, fitting, Ready, Meets}
+use Rattle.demangle_meets.proofs.Told.{Yes, yes_of, after_after, events_after, stopped_before, cut_before}
 use Rattle.demangle_meets.proofs.Goes.{no_trouble, goes_then, goes_after, goes_as, counts_then, counts_same}
 use Rattle.demangle_meets.proofs.Acts.{keeps_then, was_well, then_act}
 
@@ -62,3 +63,142 @@ ends_more zero d = ap ends (plain d)
     plain : (d : ℕ) → d ≡ 0 + d
     plain d = omega arith
 ends_more (suc k) d = ap (λ z. closed ∷ z) (ends_more k d) ∙ ap ends (up k d)
+
+-- ---- what was told
+told_more : (old mid new end : List Event) (i : Kind) (m : List Event) (k d : ℕ) → mid ≡ old ++ opened i ∷ [] →
+    new ≡ mid ++ (m ++ ends k) → end ≡ new ++ ends d → end ≡ old ++ ((opened i ∷ m) ++ ends (k + d))
+told_more old mid new end i m k d e f g =
+    g ∙ (ap (λ z. z ++ ends d) (f ∙ ap (λ z. z ++ (m ++ ends k)) e)
+    ∙ (append_assoc (old ++ opened i ∷ []) (m ++ ends k) (ends d)
+    ∙ (append_assoc old (opened i ∷ []) ((m ++ ends k) ++ ends d)
+    ∙ ap (λ z. old ++ opened i ∷ z) (append_assoc m (ends k) (ends d) ∙ ap (λ z. m ++ z) (ends_more k d)))))
+
+most_one : (v : Bool) → most_ended v ≤ 1
+most_one true = omega arith
+most_one false = omega arith
+
+most_none : (v : Bool) (d : ℕ) → v ≡ false → d ≤ most_ended v → d ≡ 0
+most_none true d e h = absurd (let k : true ≡ false = e in cc)
+most_none false d e h = omega (arith, h)
+
+at_most : (v : Bool) (d : ℕ) → d ≤ most_ended v → d ≤ 1
+at_most v d h = let a = most_one v in omega (arith, a, h)
+
+-- ---- the body in the events of a node
+module _ {p : Place} {a m n o : Page} {i : Kind} {v : Bool} {f : Act Core} (d : Begins a m i v) (q : Meets p m n f)
+    (e : Ends v n o) where
+  body : Goes p.level a n (λ s. after (opened i ∷ []) (act (deeper p) f s)) (Ready p f a.aside (at p.level a))
+  body = then_act (d.step.at_level p.level) d.step.same q (λ _. tt) (λ r. r)
+
+  -- where the node begins, the state is as before
+  begun : a.trouble ≡ None → Yes (yes (opened i ∷ []) (at p.level a)) a.told m.told (at p.level m)
+  begun z = yes_of (yes (opened i ∷ []) (at p.level a)) a.told m.told (at p.level m)
+      ((d.step.at_level p.level).done z (d.no_trouble z))
+
+  same_state : a.trouble ≡ None → at p.level m ≡ at p.level a
+  same_state z = let r = (begun z).is in
+      let k : yes (opened i ∷ []) (at p.level a) ≡ yes (begun z).told (at p.level m) = r in
+      let j : at p.level a ≡ at p.level m = cc in sym j
+
+  grown : a.trouble ≡ None → m.told ≡ a.told ++ opened i ∷ []
+  grown z = let r = (begun z).is in
+      let k : yes (opened i ∷ []) (at p.level a) ≡ yes (begun z).told (at p.level m) = r in
+      let j : (begun z).told ≡ opened i ∷ [] = cc in (begun z).grown ∙ ap (λ y. a.told ++ y) j
+
+  well_bracketed : (s : State Core) → AreBracketed (act (deeper p) f s)
+  well_bracketed s = act_bracketed (deeper p) (print_bracketed (world_of p.refers) p.left) f s
+
+  ended_stopped : (g : Fault) → a.trouble ≡ None → n.trouble ≡ Some (fault g) →
+      Stopped a.told o.told (after (opened i ∷ []) (act (deeper p) f (at p.level a))) g
+  ended_stopped g z y =
+    let
+      w : Stopped m.told n.told (act (deeper p) f (at p.level m)) g = q.goes.stopped g (d.no_trouble z) y
+    in
+    record {
+      before = opened i ∷ w.before;
+      ended = w.ended + e.ended;
+      is = ap (after (opened i ∷ []))
+          (ap (act (deeper p) f) (sym (same_state z)) ∙ w.is);
+      told = told_more a.told m.told n.told o.told i w.before w.ended e.ended (grown z) w.told (e.told (fault g) y);
+      were_open = one_more w.ended e.ended i w.before (at_most v e.ended e.most)
+          (subst IsOpen (ap events w.is) (events_open (act (deeper p) f (at p.level m)) (well_bracketed (at p.level m))))
+          w.were_open;
+    }
+
+  ended_cut : (c : Loss) → a.trouble ≡ None → n.trouble ≡ Some (lost c) →
+      Cut a.told o.told (after (opened i ∷ []) (act (deeper p) f (at p.level a)))
+  ended_cut c z y =
+    let
+      w : Cut m.told n.told (act (deeper p) f (at p.level m)) = q.goes.cut c (d.no_trouble z) y
+    in
+    record {
+      front = opened i ∷ w.front;
+      others = w.others;
+      ended = w.ended + e.ended;
+      is = events_after (opened i ∷ []) (act (deeper p) f (at p.level a))
+          ∙ ap (λ k. opened i ∷ k) (ap (λ s. events (act (deeper p) f s)) (sym (same_state z)) ∙ w.is);
+      told = told_more a.told m.told n.told o.told i w.front w.ended e.ended (grown z) w.told (e.told (lost c) y);
+      were_open = one_more w.ended e.ended i w.front (at_most v e.ended e.most)
+          (open_front w.front w.others (open_behind w.front (Some 0)) refl
+          (subst IsOpen w.is (events_open (act (deeper p) f (at p.level m)) (well_bracketed (at p.level m)))))
+          w.were_open;
+    }
+
+  enclosed : Goes p.level a o (λ s. bind (after (opened i ∷ []) (act (deeper p) f s)) (λ t. yes (closed ∷ []) t))
+      (Ready p f a.aside (at p.level a))
+  enclosed =
+    let
+      close : State Core → Answer Core = λ t. yes (closed ∷ []) t
+    in
+    record {
+      done = λ z y. (goes_then body (e.at_level p.level (sym e.trouble ∙ y)) (λ r. r) (λ _ _ _. tt)).done z y;
+      stopped = λ g z y. stopped_before (after (opened i ∷ []) (act (deeper p) f (at p.level a))) close
+          (ended_stopped g z (sym e.trouble ∙ y));
+      cut = λ c z y. cut_before (after (opened i ∷ []) (act (deeper p) f (at p.level a))) close
+          (ended_cut c z (sym e.trouble ∙ y));
+      fits = λ z y r. body.fits z (sym e.trouble ∙ y) r;
+      faults = counts_then (λ t z. (body.stays t z).1) (λ t z. e.trouble ∙ z) body.faults
+          (counts_same e.counts.0 (λ z y. no_trouble (lost failed) n.trouble z (sym e.trouble ∙ y)));
+      refusals = counts_then (λ t z. (body.stays t z).1) (λ t z. e.trouble ∙ z) body.refusals
+          (counts_same e.counts.1 (λ z y. no_trouble (lost refused) n.trouble z (sym e.trouble ∙ y)));
+      stays = λ t z. (
+        e.told t (body.stays t z).1
+            ∙ (ap (λ k. n.told ++ ends k) (most_none v e.ended (d.silent t z) e.most)
+            ∙ (append-nil n.told ∙ (body.stays t z).0)),
+        e.trouble ∙ (body.stays t z).1,
+      );
+    }
+
+  enclosed_same : Keeps a o
+  enclosed_same = record {
+    is = λ z y. e.aside (sym e.trouble ∙ y)
+        ∙ (keeps_then d.step.same q.goes q.same).is z (sym e.trouble ∙ y);
+  }
+
+events_split : (i : Kind) (x : Answer Core) (go : State Core → Answer Core) →
+    after (opened i ∷ []) (bind x (λ t. after (closed ∷ []) (go t)))
+    ≡ bind (bind (after (opened i ∷ []) x) (λ t. yes (closed ∷ []) t)) go
+events_split i (yes m s) go = ap (after (opened i ∷ [])) (after_after m (closed ∷ []) (go s))
+    ∙ after_after (opened i ∷ []) (m ++ closed ∷ []) (go s)
+events_split i (no m f) go = refl
+
+after_split : (P : State Core → Type 0) (m n : List Event) (x : Answer Core) → After P x →
+    After P (bind (after m x) (λ t. yes n t))
+after_split P m n (yes k s) h = h
+after_split P m n (no k f) h = h
+
+pub meets_event : {p : Place} {a m n o b : Page} {i : Kind} {v : Bool} {f k : Act Core} → Begins a m i v →
+    Meets p m n f → Ends v n o → Meets p o b k → Meets p a b (event i f k)
+unfolding act Does
+meets_event {p} {a} {m} {n} {o} {b} {i} {v} {f} {k} d q e r =
+  let
+    whole : Goes p.level a b
+        (λ s. bind (bind (after (opened i ∷ []) (act (deeper p) f s)) (λ t. yes (closed ∷ []) t)) (act (deeper p) k))
+        (Ready p f a.aside (at p.level a) × After (Ready p k a.aside) (act (deeper p) f (at p.level a))) =
+      then_act (enclosed d q e) (enclosed_same d q e) r (λ w. w.0)
+        (λ w. after_split (Ready p k a.aside) (opened i ∷ []) (closed ∷ []) (act (deeper p) f (at p.level a)) w.1)
+  in
+  record {
+    goes = goes_as (λ _. events_split i (act (deeper p) f (at p.level a)) (act (deeper p) k)) (λ _ w. w) whole;
+    same = keeps_then (enclosed_same d q e) r.goes r.same;
+  }
