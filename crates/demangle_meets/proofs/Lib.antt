@@ -4,3 +4,6 @@ pub mod Steps
 pub mod Acts
 pub mod Around
 pub mod Events
+pub mod Parts
+pub mod Sifted
+pub mod Lines

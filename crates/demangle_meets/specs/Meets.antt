@@ -4,7 +4,8 @@ use Rattle.demangle_core.specs.Core.{Core}
 use Rattle.demangle_printing.specs.State.{Held, State, Answer, is_own}
 use Rattle.demangle_printing.specs.Scope.{Scope}
 use Rattle.demangle_printing.specs.Act.{Job, Act, done, act, owned, sifted}
-use Rattle.demangle_printing.specs.Rules.{line_of, inner_of}
+use Rattle.demangle_printing.specs.Rules.{line_of, inner_of, lines_after, members_after, turns, rvalues}
+use Rattle.demangle_printing.specs.Arrays.{array_turns}
 use Rattle.demangle_printing.specs.Print.{print}
 use Rattle.demangle_printing.specs.Laws.{Does, OwnDoes, SiftsAll, BeginsFitting}
 use Rattle.demangle_meets.specs.Page.{Page, at}
@@ -58,3 +59,22 @@ pub record Remains (p : Place) (a c : Page) (whole left : Act Core) : Type 0 whe
 pub record RemainsToSift (p : Place) (a c : Page) (is_kept : Core → Bool) (doing : Core → Job Core × Scope Core)
     (whole left : ℕ) : Type 0 where
   pub rest : (b : Page) → Sifts p c b is_kept doing left → Sifts p a b is_kept doing whole
+
+-- What remains is the rest of a list, behind its first; of template arguments, from this one on.
+pub record ListRemains (p : Place) (a c : Page) (whole : Act Core) (xs : List Core) (sc : Scope Core) : Type 0 where
+  pub remains : Remains p a c whole (lines_after (world_of p.refers) xs sc)
+
+pub record MembersRemain (p : Place) (a c : Page) (whole : Act Core) (n list : ℕ) (xs : List Core) (sc : Scope Core)
+    : Type 0 where
+  pub remains : Remains p a c whole (members_after (world_of p.refers) n list xs sc)
+
+-- What remains is at most so many items: each done; each right reference taken; each before the bounds of an array.
+pub record TurnsRemain (p : Place) (a c : Page) (whole : Act Core) (n : ℕ) (sc : Scope Core) : Type 0 where
+  pub remains : Remains p a c whole (turns (world_of p.refers) n sc)
+
+pub record RvaluesRemain (p : Place) (a c : Page) (whole : Act Core) (n : ℕ) : Type 0 where
+  pub remains : Remains p a c whole (rvalues (world_of p.refers) n)
+
+pub record ArraysRemain (p : Place) (a c : Page) (whole : Act Core) (n : ℕ) (spaced : Bool) (sc : Scope Core)
+    : Type 0 where
+  pub remains : Remains p a c whole (array_turns (world_of p.refers) n sc spaced)
