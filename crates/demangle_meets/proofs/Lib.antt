@@ -7,3 +7,5 @@ pub mod Events
 pub mod Parts
 pub mod Sifted
 pub mod Lines
+pub mod Laws
+pub mod Room

@@ -3,3 +3,4 @@ pub mod Goes
 pub mod Place
 pub mod Calls
 pub mod Meets
+pub mod Laws
