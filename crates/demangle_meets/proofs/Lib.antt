@@ -9,3 +9,4 @@ pub mod Sifted
 pub mod Lines
 pub mod Laws
 pub mod Room
+mod Samples

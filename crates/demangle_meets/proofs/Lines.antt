@@ -112,9 +112,9 @@ meets_take_none {p} sc none q =
     meets_ask (λ z. ap (λ y. turn_from (world_of p.refers) y sc done) (none z)) meets_done q
 
 -- each item, from the top, until none is left
-pub turns_all : {p : Place} {a : Page} {n : ℕ} {sc : Scope Core} →
+pub turns_all : {p : Place} {a : Page} {sc : Scope Core} (n : ℕ) →
     TurnsRemain p a a (turns (world_of p.refers) n sc) n sc
-turns_all = record { remains = remains_all }
+turns_all n = record { remains = remains_all }
 
 turns_none : (p : Place) (sc : Scope Core) (n : ℕ) {a : Page} → (a.trouble ≡ None → a.inner ≡ []) →
     Meets p a a (turns (world_of p.refers) n sc)
@@ -153,8 +153,8 @@ rvalue_at p n a top is z =
     ap (λ y. rvalue_from (world_of p.refers) y (rvalues (world_of p.refers) n)) (top z)
     ∙ ap (λ u. pop_if (world_of p.refers) u (rvalues (world_of p.refers) n)) is
 
-pub rvalues_all : {p : Place} {a : Page} {n : ℕ} → RvaluesRemain p a a (rvalues (world_of p.refers) n) n
-rvalues_all = record { remains = remains_all }
+pub rvalues_all : {p : Place} {a : Page} (n : ℕ) → RvaluesRemain p a a (rvalues (world_of p.refers) n) n
+rvalues_all n = record { remains = remains_all }
 
 rvalues_none : (p : Place) (n : ℕ) {a : Page} → (a.trouble ≡ None → a.inner ≡ []) →
     Meets p a a (rvalues (world_of p.refers) n)
@@ -205,9 +205,9 @@ meets_joined {p} {body = body} v d e q r =
     meets_ask (λ _. refl) d (meets_ask (λ z. ap (λ u. unless (world_of p.refers) u body) (e z)) q r)
 
 -- ---- arrays
-pub arrays_all : {p : Place} {a : Page} {n : ℕ} {v : Bool} {sc : Scope Core} →
+pub arrays_all : {p : Place} {a : Page} {sc : Scope Core} (n : ℕ) (v : Bool) →
     ArraysRemain p a a (array_turns (world_of p.refers) n sc v) n v sc
-arrays_all = record { remains = remains_all }
+arrays_all n v = record { remains = remains_all }
 
 arrays_none : (p : Place) (sc : Scope Core) (n : ℕ) (v : Bool) {a b : Page} → (a.trouble ≡ None → a.inner ≡ []) →
     Meets p a b (before_bounds (world_of p.refers) v) → Meets p a b (array_turns (world_of p.refers) n sc v)
