@@ -39,7 +39,7 @@ open_front : (m k : List Event) (o : Option ℕ) → open_behind m (Some 0) ≡ 
 open_front m k (Some c) e p = (c, e)
 open_front m k None e p =
     absurd (let same : None ≡ Some p.0 = sym (none_open k) ∙ (ap (open_behind k) (sym e)
-        ∙ (sym (open_then m k (Some 0)) ∙ p.1)) in cc)
+    ∙ (sym (open_then m k (Some 0)) ∙ p.1)) in cc)
 
 events_open : (x : Answer Core) → AreBracketed x → IsOpen (events x)
 events_open (yes m s) p = (0, p 0)
@@ -111,63 +111,63 @@ module _ {p : Place} {a m n o : Page} {i : Kind} {v : Bool} {f : Act Core} (d : 
   ended_stopped : (g : Fault) → a.trouble ≡ None → n.trouble ≡ Some (fault g) →
       Stopped a.told o.told (after (opened i ∷ []) (act (deeper p) f (at p.level a))) g
   ended_stopped g z y =
-    let
+      let
       w : Stopped m.told n.told (act (deeper p) f (at p.level m)) g = q.goes.stopped g (d.no_trouble z) y
-    in
-    record {
-      before = opened i ∷ w.before;
-      ended = w.ended + e.ended;
-      is = ap (after (opened i ∷ []))
-          (ap (act (deeper p) f) (sym (same_state z)) ∙ w.is);
-      told = told_more a.told m.told n.told o.told i w.before w.ended e.ended (grown z) w.told (e.told (fault g) y);
-      were_open = one_more w.ended e.ended i w.before (at_most v e.ended e.most)
-          (subst IsOpen (ap events w.is) (events_open (act (deeper p) f (at p.level m)) (well_bracketed (at p.level m))))
-          w.were_open;
-    }
+      in
+      record {
+        before = opened i ∷ w.before;
+        ended = w.ended + e.ended;
+        is = ap (after (opened i ∷ []))
+            (ap (act (deeper p) f) (sym (same_state z)) ∙ w.is);
+        told = told_more a.told m.told n.told o.told i w.before w.ended e.ended (grown z) w.told (e.told (fault g) y);
+        were_open = one_more w.ended e.ended i w.before (at_most v e.ended e.most)
+            (subst IsOpen (ap events w.is) (events_open (act (deeper p) f (at p.level m)) (well_bracketed (at p.level m))))
+            w.were_open;
+      }
 
   ended_cut : (c : Loss) → a.trouble ≡ None → n.trouble ≡ Some (lost c) →
       Cut a.told o.told (after (opened i ∷ []) (act (deeper p) f (at p.level a)))
   ended_cut c z y =
-    let
+      let
       w : Cut m.told n.told (act (deeper p) f (at p.level m)) = q.goes.cut c (d.no_trouble z) y
-    in
-    record {
-      front = opened i ∷ w.front;
-      others = w.others;
-      ended = w.ended + e.ended;
-      is = events_after (opened i ∷ []) (act (deeper p) f (at p.level a))
-          ∙ ap (λ k. opened i ∷ k) (ap (λ s. events (act (deeper p) f s)) (sym (same_state z)) ∙ w.is);
-      told = told_more a.told m.told n.told o.told i w.front w.ended e.ended (grown z) w.told (e.told (lost c) y);
-      were_open = one_more w.ended e.ended i w.front (at_most v e.ended e.most)
-          (open_front w.front w.others (open_behind w.front (Some 0)) refl
-          (subst IsOpen w.is (events_open (act (deeper p) f (at p.level m)) (well_bracketed (at p.level m)))))
-          w.were_open;
-    }
+      in
+      record {
+        front = opened i ∷ w.front;
+        others = w.others;
+        ended = w.ended + e.ended;
+        is = events_after (opened i ∷ []) (act (deeper p) f (at p.level a))
+            ∙ ap (λ k. opened i ∷ k) (ap (λ s. events (act (deeper p) f s)) (sym (same_state z)) ∙ w.is);
+        told = told_more a.told m.told n.told o.told i w.front w.ended e.ended (grown z) w.told (e.told (lost c) y);
+        were_open = one_more w.ended e.ended i w.front (at_most v e.ended e.most)
+            (open_front w.front w.others (open_behind w.front (Some 0)) refl
+            (subst IsOpen w.is (events_open (act (deeper p) f (at p.level m)) (well_bracketed (at p.level m)))))
+            w.were_open;
+      }
 
   enclosed : Goes p.level a o (λ s. bind (after (opened i ∷ []) (act (deeper p) f s)) (λ t. yes (closed ∷ []) t))
       (Ready p f a.aside (at p.level a))
   enclosed =
-    let
+      let
       close : State Core → Answer Core = λ t. yes (closed ∷ []) t
-    in
-    record {
-      done = λ z y. (goes_then body (e.at_level p.level (sym e.trouble ∙ y)) (λ r. r) (λ _ _ _. tt)).done z y;
-      stopped = λ g z y. stopped_before (after (opened i ∷ []) (act (deeper p) f (at p.level a))) close
-          (ended_stopped g z (sym e.trouble ∙ y));
-      cut = λ c z y. cut_before (after (opened i ∷ []) (act (deeper p) f (at p.level a))) close
-          (ended_cut c z (sym e.trouble ∙ y));
-      fits = λ z y r. body.fits z (sym e.trouble ∙ y) r;
-      faults = counts_then (λ t z. (body.stays t z).1) (λ t z. e.trouble ∙ z) body.faults
-          (counts_same e.counts.0 (λ z y. no_trouble (lost failed) n.trouble z (sym e.trouble ∙ y)));
-      refusals = counts_then (λ t z. (body.stays t z).1) (λ t z. e.trouble ∙ z) body.refusals
-          (counts_same e.counts.1 (λ z y. no_trouble (lost refused) n.trouble z (sym e.trouble ∙ y)));
-      stays = λ t z. (
-        e.told t (body.stays t z).1
-            ∙ (ap (λ k. n.told ++ ends k) (most_none v e.ended (d.silent t z) e.most)
-            ∙ (append-nil n.told ∙ (body.stays t z).0)),
-        e.trouble ∙ (body.stays t z).1,
-      );
-    }
+      in
+      record {
+        done = λ z y. (goes_then body (e.at_level p.level (sym e.trouble ∙ y)) (λ r. r) (λ _ _ _. tt)).done z y;
+        stopped = λ g z y. stopped_before (after (opened i ∷ []) (act (deeper p) f (at p.level a))) close
+            (ended_stopped g z (sym e.trouble ∙ y));
+        cut = λ c z y. cut_before (after (opened i ∷ []) (act (deeper p) f (at p.level a))) close
+            (ended_cut c z (sym e.trouble ∙ y));
+        fits = λ z y r. body.fits z (sym e.trouble ∙ y) r;
+        faults = counts_then (λ t z. (body.stays t z).1) (λ t z. e.trouble ∙ z) body.faults
+            (counts_same e.counts.0 (λ z y. no_trouble (lost failed) n.trouble z (sym e.trouble ∙ y)));
+        refusals = counts_then (λ t z. (body.stays t z).1) (λ t z. e.trouble ∙ z) body.refusals
+            (counts_same e.counts.1 (λ z y. no_trouble (lost refused) n.trouble z (sym e.trouble ∙ y)));
+        stays = λ t z. (
+          e.told t (body.stays t z).1
+              ∙ (ap (λ k. n.told ++ ends k) (most_none v e.ended (d.silent t z) e.most)
+              ∙ (append-nil n.told ∙ (body.stays t z).0)),
+          e.trouble ∙ (body.stays t z).1,
+        );
+      }
 
   enclosed_same : Keeps a o
   enclosed_same = record {
@@ -191,14 +191,14 @@ pub meets_event : {p : Place} {a m n o b : Page} {i : Kind} {v : Bool} {f k : Ac
     Meets p m n f → Ends v n o → Meets p o b k → Meets p a b (event i f k)
 unfolding act Does
 meets_event {p} {a} {m} {n} {o} {b} {i} {v} {f} {k} d q e r =
-  let
+    let
     whole : Goes p.level a b
-        (λ s. bind (bind (after (opened i ∷ []) (act (deeper p) f s)) (λ t. yes (closed ∷ []) t)) (act (deeper p) k))
-        (Ready p f a.aside (at p.level a) × After (Ready p k a.aside) (act (deeper p) f (at p.level a))) =
-      then_act (enclosed d q e) (enclosed_same d q e) r (λ w. w.0)
-        (λ w. after_split (Ready p k a.aside) (opened i ∷ []) (closed ∷ []) (act (deeper p) f (at p.level a)) w.1)
-  in
-  record {
-    goes = goes_as (λ _. events_split i (act (deeper p) f (at p.level a)) (act (deeper p) k)) (λ _ w. w) whole;
-    same = keeps_then (enclosed_same d q e) r.goes r.same;
-  }
+    (λ s. bind (bind (after (opened i ∷ []) (act (deeper p) f s)) (λ t. yes (closed ∷ []) t)) (act (deeper p) k))
+    (Ready p f a.aside (at p.level a) × After (Ready p k a.aside) (act (deeper p) f (at p.level a))) =
+    then_act (enclosed d q e) (enclosed_same d q e) r (λ w. w.0)
+    (λ w. after_split (Ready p k a.aside) (opened i ∷ []) (closed ∷ []) (act (deeper p) f (at p.level a)) w.1)
+    in
+    record {
+      goes = goes_as (λ _. events_split i (act (deeper p) f (at p.level a)) (act (deeper p) k)) (λ _ w. w) whole;
+      same = keeps_then (enclosed_same d q e) r.goes r.same;
+    }

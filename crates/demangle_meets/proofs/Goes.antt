@@ -19,25 +19,25 @@ pub counts_then : {why : Loss} {i j k : ℕ} {x y z : Option Trouble} → ((t : 
     ((t : Trouble) → y ≡ Some t → z ≡ Some t) →
     Counts why i j x y → Counts why j k y z → Counts why i k x z
 counts_then {why} {i} {j} {k} {x} {y} {z} f g p q =
-  let
+    let
     rose : (o : Option Trouble) → y ≡ o → x ≡ None → z ≡ Some (lost why) → Rose i k =
-      elim [
-        None ↦ λ e n h. subst (λ v. Rose v k) (p.same n (λ u. no_trouble (lost why) y e u)) (q.rose e h)
+    elim [
+      | None ↦ λ e n h. subst (λ v. Rose v k) (p.same n (λ u. no_trouble (lost why) y e u)) (q.rose e h)
       | Some t ↦ λ e n h. subst (Rose i) (sym (q.stays t e)) (p.rose n (e ∙ (sym (g t e) ∙ h)))
-      ]
-  in
-  let
+    ]
+    in
+    let
     same : (o : Option Trouble) → y ≡ o → x ≡ None → (z ≡ Some (lost why) → ⊥) → k ≡ i =
-      elim [
-        None ↦ λ e n h. q.same e h ∙ p.same n (λ u. no_trouble (lost why) y e u)
+    elim [
+      | None ↦ λ e n h. q.same e h ∙ p.same n (λ u. no_trouble (lost why) y e u)
       | Some t ↦ λ e n h. q.stays t e ∙ p.same n (λ u. h (g (lost why) u))
-      ]
-  in
-  record {
-    rose = rose y refl;
-    same = same y refl;
-    stays = λ t e. q.stays t (f t e) ∙ p.stays t e;
-  }
+    ]
+    in
+    record {
+      rose = rose y refl;
+      same = same y refl;
+      stays = λ t e. q.stays t (f t e) ∙ p.stays t e;
+    }
 
 -- where nothing is counted
 pub counts_same : {why : Loss} {i j : ℕ} {x y : Option Trouble} → j ≡ i → (x ≡ None → y ≡ Some (lost why) → ⊥) →
@@ -49,59 +49,59 @@ counts_same e n =
 pub goes_then : {l : ℕ} {a m b : Page} {g h : State Core → Answer Core} {S T V : Type 0} → Goes l a m g S →
     Goes l m b h T → (V → S) → (a.trouble ≡ None → m.trouble ≡ None → V → T) → Goes l a b (λ s. bind (g s) h) V
 goes_then {l} {a} {m} {b} {g} {h} {S} {T} {V} p q left right =
-  let
+    let
     both : a.trouble ≡ None → m.trouble ≡ None → Yes (g (at l a)) a.told m.told (at l m) =
-      λ n e. yes_of (g (at l a)) a.told m.told (at l m) (p.done n e)
-  in
-  let
+    λ n e. yes_of (g (at l a)) a.told m.told (at l m) (p.done n e)
+    in
+    let
     behind : (n : a.trouble ≡ None) (e : m.trouble ≡ None) →
-        bind (g (at l a)) h ≡ after ((both n e).told) (h (at l m)) =
-      λ n e. ap (λ z. bind z h) ((both n e).is)
-  in
-  let
+    bind (g (at l a)) h ≡ after ((both n e).told) (h (at l m)) =
+    λ n e. ap (λ z. bind z h) ((both n e).is)
+    in
+    let
     done_by : (x : Option Trouble) → m.trouble ≡ x → a.trouble ≡ None → b.trouble ≡ None →
-        after a.told (bind (g (at l a)) h) ≡ yes b.told (at l b) =
-      elim [
-        None ↦ λ e n z. after_bind a.told (g (at l a)) h ∙ (ap (λ y. bind y h) (p.done n e) ∙ q.done e z)
+    after a.told (bind (g (at l a)) h) ≡ yes b.told (at l b) =
+    elim [
+      | None ↦ λ e n z. after_bind a.told (g (at l a)) h ∙ (ap (λ y. bind y h) (p.done n e) ∙ q.done e z)
       | Some t ↦ λ e n z. no_trouble t b.trouble z (q.stays t e).1
-      ]
-  in
-  let
+    ]
+    in
+    let
     stopped_by : (f : Fault) (x : Option Trouble) → m.trouble ≡ x → a.trouble ≡ None → b.trouble ≡ Some (fault f) →
-        Stopped a.told b.told (bind (g (at l a)) h) f =
-      λ f. elim [
-        None ↦ λ e n z. stopped_behind (both n e).told (behind n e) (both n e).grown (q.stopped f e z)
+    Stopped a.told b.told (bind (g (at l a)) h) f =
+    λ f. elim [
+      | None ↦ λ e n z. stopped_behind (both n e).told (behind n e) (both n e).grown (q.stopped f e z)
       | Some t ↦ λ e n z. stopped_before (g (at l a)) h
           (subst (λ y. Stopped a.told y (g (at l a)) f) (sym (q.stays t e).0)
           (p.stopped f n (e ∙ (sym (q.stays t e).1 ∙ z))))
-      ]
-  in
-  let
+    ]
+    in
+    let
     cut_by : (c : Loss) (x : Option Trouble) → m.trouble ≡ x → a.trouble ≡ None → b.trouble ≡ Some (lost c) →
-        Cut a.told b.told (bind (g (at l a)) h) =
-      λ c. elim [
-        None ↦ λ e n z. cut_behind (both n e).told (behind n e) (both n e).grown (q.cut c e z)
+    Cut a.told b.told (bind (g (at l a)) h) =
+    λ c. elim [
+      | None ↦ λ e n z. cut_behind (both n e).told (behind n e) (both n e).grown (q.cut c e z)
       | Some t ↦ λ e n z. cut_before (g (at l a)) h
           (subst (λ y. Cut a.told y (g (at l a))) (sym (q.stays t e).0)
           (p.cut c n (e ∙ (sym (q.stays t e).1 ∙ z))))
-      ]
-  in
-  let
+    ]
+    in
+    let
     fits_by : (x : Option Trouble) → m.trouble ≡ x → a.trouble ≡ None → b.trouble ≡ Some (lost full) → V → ⊥ =
-      elim [
-        None ↦ λ e n z v. q.fits e z (right n e v)
+    elim [
+      | None ↦ λ e n z v. q.fits e z (right n e v)
       | Some t ↦ λ e n z v. p.fits n (e ∙ (sym (q.stays t e).1 ∙ z)) (left v)
-      ]
-  in
-  record {
-    done = done_by m.trouble refl;
-    stopped = λ f. stopped_by f m.trouble refl;
-    cut = λ c. cut_by c m.trouble refl;
-    fits = fits_by m.trouble refl;
-    faults = counts_then (λ t e. (p.stays t e).1) (λ t e. (q.stays t e).1) p.faults q.faults;
-    refusals = counts_then (λ t e. (p.stays t e).1) (λ t e. (q.stays t e).1) p.refusals q.refusals;
-    stays = λ t e. ((q.stays t (p.stays t e).1).0 ∙ (p.stays t e).0, (q.stays t (p.stays t e).1).1);
-  }
+    ]
+    in
+    record {
+      done = done_by m.trouble refl;
+      stopped = λ f. stopped_by f m.trouble refl;
+      cut = λ c. cut_by c m.trouble refl;
+      fits = fits_by m.trouble refl;
+      faults = counts_then (λ t e. (p.stays t e).1) (λ t e. (q.stays t e).1) p.faults q.faults;
+      refusals = counts_then (λ t e. (p.stays t e).1) (λ t e. (q.stays t e).1) p.refusals q.refusals;
+      stays = λ t e. ((q.stays t (p.stays t e).1).0 ∙ (p.stays t e).0, (q.stays t (p.stays t e).1).1);
+    }
 
 -- What holds behind what was done holds of the page that it leaves.
 pub goes_after : {l : ℕ} {a m : Page} {g : State Core → Answer Core} {S : Type 0} (P : State Core → Type 0) →

@@ -60,31 +60,31 @@ tells_in_order p a b j sc d n = (whole, stopped)
 
     whole : b.trouble ≡ None → WasTold a.told b.told (deeper p j sc (at p.level a)) (at p.level b)
     whole z =
-      let
+        let
         y = yes_of (deeper p j sc (at p.level a)) a.told b.told (at p.level b) (goes.done n z)
-      in
-      record {
-        told = y.told;
-        is = y.is;
-        grown = y.grown;
-        are_closed = closed_of (deeper p j sc (at p.level a)) y.told (at p.level b) y.is bracketed;
-      }
+        in
+        record {
+          told = y.told;
+          is = y.is;
+          grown = y.grown;
+          are_closed = closed_of (deeper p j sc (at p.level a)) y.told (at p.level b) y.is bracketed;
+        }
 
     stopped : (f : Fault) → b.trouble ≡ Some (fault f) →
         WasStopped a.told b.told (deeper p j sc (at p.level a)) f
     stopped f z =
-      let
+        let
         y : Stopped a.told b.told (deeper p j sc (at p.level a)) f = goes.stopped f n z
-      in
-      let
+        in
+        let
         o : AreOpen y.before = open_of (deeper p j sc (at p.level a)) y.before f y.is bracketed
-      in
-      record {
-        before = y.before;
-        ended = y.ended;
-        stand_open = o.0;
-        is = y.is;
-        grown = y.told;
-        are_open = o.1;
-        no_more = subst (λ k. y.ended ≤ k) (no_more o.0) (y.were_open 0 (o.0 + 0) (o.1 0));
-      }
+        in
+        record {
+          before = y.before;
+          ended = y.ended;
+          stand_open = o.0;
+          is = y.is;
+          grown = y.told;
+          are_open = o.1;
+          no_more = subst (λ k. y.ended ≤ k) (no_more o.0) (y.were_open 0 (o.0 + 0) (o.1 0));
+        }

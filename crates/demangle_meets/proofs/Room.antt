@@ -59,7 +59,7 @@ all_under n (h ∷ hs) e =
     below false f =
         let a = e h.level (ltb-false h.level n f) in
         let b : one_if (h.level == h.level) (at_level h.level hs) ≡ suc (at_level h.level hs) =
-          ap (λ v. one_if v (at_level h.level hs)) (eq-eqb h.level h.level refl) in
+        ap (λ v. one_if v (at_level h.level hs)) (eq-eqb h.level h.level refl) in
         absurd (omega (arith, a, b))
 
 -- at each level there is at most one

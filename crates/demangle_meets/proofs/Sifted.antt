@@ -26,16 +26,16 @@ item_at : (p : Place) (is_kept : Core → Bool) (doing : Core → Job Core × Sc
     Goes p.level a b (sifted (deeper p) is_kept doing (suc n))
     (SiftsAll (deeper p) (fitting p) is_kept doing a.aside (suc n) (at p.level a))
 item_at p is_kept doing n {a} {b} {v} {h} {hs} top is d =
-  let
+    let
     more : State Core → Answer Core = sifted (deeper p) is_kept doing n
-  in
-  let
+    in
+    let
     More : State Core → Type 0 = SiftsAll (deeper p) (fitting p) is_kept doing a.aside n
-  in
-  goes_as (λ z. ap (λ y. sifted_from (deeper p) is_kept doing y more (at p.level a)) (top z)
-      ∙ ap (λ u. sifted_item (deeper p) doing h u more (at p.level a)) is)
-      (λ z r. subst (λ u. SiftsItem (deeper p) (fitting p) doing a.aside h u More (at p.level a)) is
-      (subst (λ y. SiftsFrom (deeper p) (fitting p) is_kept doing a.aside y More (at p.level a)) (top z) r)) d
+    in
+    goes_as (λ z. ap (λ y. sifted_from (deeper p) is_kept doing y more (at p.level a)) (top z)
+    ∙ ap (λ u. sifted_item (deeper p) doing h u more (at p.level a)) is)
+    (λ z r. subst (λ u. SiftsItem (deeper p) (fitting p) doing a.aside h u More (at p.level a)) is
+    (subst (λ y. SiftsFrom (deeper p) (fitting p) is_kept doing a.aside y More (at p.level a)) (top z) r)) d
 
 -- the top item is popped and done
 item_done : (p : Place) (doing : Core → Job Core × Scope Core) (h : Held Core) {a m c : Page} →
@@ -86,18 +86,18 @@ module _ {p : Place} {is_kept : Core → Bool} {doing : Core → Job Core × Sco
       Meets p m c (call (doing h.item).0 (doing h.item).1 done) → Sifts p c b is_kept doing n →
       Sifts p a b is_kept doing (suc n)
   sifts_done {a} {m} {c} {b} {n} {h} {hs} top is d q r =
-    let
+      let
       first = item_done p doing h d q
-    in
-    let
+      in
+      let
       same : Keeps a c = keeps_then d.same q.goes q.same
-    in
-    record {
-      goes = item_at p is_kept doing n top is (goes_then first r.goes (λ v. v.0)
-          (λ z y v. subst (λ u. SiftsAll (deeper p) (fitting p) is_kept doing u n (at p.level c)) (sym (same.is z y))
-          (goes_after (SiftsAll (deeper p) (fitting p) is_kept doing a.aside n) first z y v.1)));
-      same = keeps_then same r.goes r.same;
-    }
+      in
+      record {
+        goes = item_at p is_kept doing n top is (goes_then first r.goes (λ v. v.0)
+            (λ z y v. subst (λ u. SiftsAll (deeper p) (fitting p) is_kept doing u n (at p.level c)) (sym (same.is z y))
+            (goes_after (SiftsAll (deeper p) (fitting p) is_kept doing a.aside n) first z y v.1)));
+        same = keeps_then same r.goes r.same;
+      }
 
   -- ---- in a loop
   pub remains_to_sift : {a : Page} {n : ℕ} → RemainsToSift p a a is_kept doing n n
@@ -120,28 +120,28 @@ pub meets_sift : {p : Place} {a m n b : Page} {is_kept : Core → Bool} {doing :
     Meets p n b k → Meets p a b (sift is_kept doing k)
 unfolding act Does
 meets_sift {p} {a} {m} {n} {b} {is_kept} {doing} {k} d e q =
-  let
+    let
     back : State Core → State Core = returned (length a.kept)
-  in
-  let
+    in
+    let
     Behind : List (Held Core) → State Core → Type 0 = λ u t. IsReady u (back t) × Ready p k u (back t)
-  in
-  let
+    in
+    let
     behind : Goes p.level m b (λ t. act (deeper p) k (back t)) (Behind m.aside (at p.level m)) =
-      goes_as (λ _. sym (after_none _)) (λ _ v. v)
-        (goes_then e.goes q.goes (λ (v : Behind m.aside (at p.level m)). v.0)
-        (λ z y v. subst (λ u. Ready p k u (at p.level n)) (sym (e.same.is z y))
-        (goes_after (Ready p k m.aside) e.goes z y v.1)))
-  in
-  let
+    goes_as (λ _. sym (after_none _)) (λ _ v. v)
+    (goes_then e.goes q.goes (λ (v : Behind m.aside (at p.level m)). v.0)
+    (λ z y v. subst (λ u. Ready p k u (at p.level n)) (sym (e.same.is z y))
+    (goes_after (Ready p k m.aside) e.goes z y v.1)))
+    in
+    let
     whole : Goes p.level a b
-        (λ s. bind (sifted (deeper p) is_kept doing (length a.inner) s) (λ t. act (deeper p) k (back t)))
-        (SiftsAll (deeper p) (fitting p) is_kept doing a.aside (length a.inner) (at p.level a)
-        × After (Behind a.aside) (sifted (deeper p) is_kept doing (length a.inner) (at p.level a))) =
-      goes_then d.goes behind (λ v. v.0) (λ z y v. subst (λ u. Behind u (at p.level m)) (sym (d.same.is z y))
-        (goes_after (Behind a.aside) d.goes z y v.1))
-  in
-  record {
-    goes = goes_as (λ _. refl) (λ _ v. v) whole;
-    same = keeps_then (keeps_then d.same e.goes e.same) q.goes q.same;
-  }
+    (λ s. bind (sifted (deeper p) is_kept doing (length a.inner) s) (λ t. act (deeper p) k (back t)))
+    (SiftsAll (deeper p) (fitting p) is_kept doing a.aside (length a.inner) (at p.level a)
+    × After (Behind a.aside) (sifted (deeper p) is_kept doing (length a.inner) (at p.level a))) =
+    goes_then d.goes behind (λ v. v.0) (λ z y v. subst (λ u. Behind u (at p.level m)) (sym (d.same.is z y))
+    (goes_after (Behind a.aside) d.goes z y v.1))
+    in
+    record {
+      goes = goes_as (λ _. refl) (λ _ v. v) whole;
+      same = keeps_then (keeps_then d.same e.goes e.same) q.goes q.same;
+    }
