@@ -45,10 +45,13 @@ def noticing(task):
     return number, found
 
 
-def first_noticing(subject, search):
-    """For each edit the first readings that notice it; none where all were tried in vain."""
-    tasks = [(number, subject.candidates(edit), ENOUGH) for number, edit in enumerate(subject.edits)]
-    return search.noticing(tasks)
+def first_noticing(subject, search, known):
+    """For each edit the first readings that notice it: of the known ones, and where these are too few, of all."""
+    candidates = dict(enumerate(map(subject.candidates, subject.edits)))
+    found = search.noticing([(edit, [k for k in ks if k in known], ENOUGH) for edit, ks in candidates.items()])
+    few = [edit for edit, ks in found.items() if len(ks) < TWICE]
+    more = search.noticing([(edit, [k for k in candidates[edit] if k not in known], ENOUGH) for edit in few])
+    return {edit: ks + more.get(edit, []) for edit, ks in found.items()}
 
 
 def all_noticing(subject, search, among):
@@ -75,7 +78,7 @@ def cover(noticed, given, cost):
 
     def add(k):
         chosen.append(k)
-        for edit in edits_of.pop(k, ()):
+        for edit in edits_of.pop(k, set()) & left.keys():
             left[edit] -= 1
             if not left[edit]:
                 del left[edit]

@@ -23,7 +23,7 @@ import choice
 import edits
 from printings import Printings
 
-FIRST = 6  # how many printings that notice an edit are looked for at first
+ENOUGH = 4  # how many printings that notice an edit are looked for; a printing takes longer than a reading
 
 
 def main():
@@ -38,11 +38,9 @@ def main():
     print(len(subject.edits), "edits,", len(subject.given), "printings", flush=True)
     for line in subject.wrong:
         print("not as expected:", json.dumps(line, ensure_ascii=False))
-    choice.ENOUGH = FIRST
+    choice.ENOUGH = ENOUGH
     search = choice.Search(subject, given.processes)
-    if given.action == "choose":
-        edits.choose(subject, search)
-    left = edits.check(subject, search, given.report)
+    left = edits.run(subject, search, given.action, given.report)
     sys.exit(1 if left or subject.wrong else 0)
 
 

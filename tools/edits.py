@@ -13,8 +13,9 @@ input that reaches the edited place. An input notices an edit where the answer, 
 one. Whatever else is expected of an input, a printed text or an answer under a limit, follows from these.
 
 `choose` writes tools/readings/rows.jsonl.xz: few readings which with those of by-hand.jsonl notice every edit that any
-input notices, each of them twice where two inputs do. `check` tells which edits these files notice, and which others an
-input does; there are to be none. Both print a table by kind of edit; the report has a line an edit.
+input notices, each of them twice where two inputs do. It begins with those that stand there, and tries all inputs for an
+edit that these don't notice twice. `check` tells which edits these files notice, and which others an input does; there
+are to be none. Both print a table by kind of edit; the report has a line an edit.
 
 An expected reading tells how many entries there are; what they hold is what the rows say now.
 """
@@ -31,7 +32,7 @@ COLUMNS = ("made", "committed", "twice", "others", "none")
 
 def choose(subject, search):
     """Gives back what it found to notice each edit."""
-    first = choice.first_noticing(subject, search)
+    first = choice.first_noticing(subject, search, subject.numbers_of(subject.committed()))
     subject.save(choice.chosen(subject, search, subject.numbers_of(subject.by_hand), first))
     return first
 
@@ -63,6 +64,12 @@ def check(noticed, subject, report):
     return table["all"]["others"]
 
 
+def run(subject, search, action, report):
+    """How many edits are noticed by inputs that aren't committed alone."""
+    first = choose(subject, search) if action == "choose" else None
+    return check(noticing(subject, search, first), subject, report)
+
+
 def main():
     parser = argparse.ArgumentParser(description=__doc__.split("\n")[0])
     parser.add_argument("action", choices=("choose", "check"))
@@ -76,11 +83,10 @@ def main():
     for line in subject.wrong:
         print("not as expected:", json.dumps(line, ensure_ascii=False))
     search = choice.Search(subject, given.processes)
-    first = choose(subject, search) if given.action == "choose" else None
+    left = run(subject, search, given.action, given.report)
     stale = subject.stale()
     for case in stale:
         print("not what the rows read:", *case.input)
-    left = check(noticing(subject, search, first), subject, given.report)
     sys.exit(1 if left or stale or subject.wrong else 0)
 
 

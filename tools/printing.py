@@ -314,7 +314,8 @@ class Printing:
     def operand(self, x, scope, path):
         part = self.find(x, path)
         tag = self.tag(part)
-        bare = part is None or tag == "ExpressionFunctionParam" or tag == "ExpressionPrimary" and self.tag(self.find(part, [0])) == "ExprPrimaryExternal"
+        is_name = tag == "ExpressionPrimary" and self.tag(self.find(part, [0])) == "ExprPrimaryExternal"
+        bare = part is None or tag == "ExpressionFunctionParam" or is_name
         self.write(b"" if bare else b"(")
         self.line_of(part, scope)
         self.write(b"" if bare else b")")

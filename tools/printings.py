@@ -142,7 +142,7 @@ class Printings:
         try:
             return self.printed(self.given[k])[0] != self.base[k]
         except leaves.Spent:
-            return False
+            return None
 
     def cost(self, k):
         line = self.given[k]
@@ -157,7 +157,7 @@ class Printings:
         return [line for line in self.committed() if line in self.wrong]
 
     def numbers_of(self, found):
-        return {self.numbers[key_of(line)] for line in found}
+        return {self.numbers[key_of(line)] for line in found if key_of(line) in self.numbers}
 
     def save(self, picked):
         found = sorted((self.given[k] for k in picked), key=lambda line: (len(line["name"]), line["name"], str(line)))

@@ -8,6 +8,7 @@ from rows import Rows
 from leaves import Spent
 
 NAME_ROW = "Row.mangled_name"
+WITH_ENTRIES = 200  # how many of the committed readings have entries at least
 UNTOLD = 4  # how much dearer an input is whose tree no expected reading tells
 
 
@@ -95,8 +96,23 @@ class RowReadings:
     def numbers_of(self, found):
         return {self.numbers[case.input] for case in found}
 
+    def case(self, k):
+        return cases.Case(*self.inputs[k], *self.base[self.inputs[k]][:3])
+
+    def more_entries(self, picked):
+        """Readings that make those with entries as many as they are to be: each with another sequence of entries."""
+        found, shown = [self.case(k) for k in picked] + self.by_hand, set()
+        left = WITH_ENTRIES - sum(bool(case.entries) for case in found)
+        shown.update(kinds_of(case.entries) for case in found)
+        for k in sorted(range(len(self.inputs)), key=lambda k: (self.cost(k), k)):
+            kinds = kinds_of(self.base[self.inputs[k]].entries)
+            if left > 0 and kinds not in shown:
+                shown.add(kinds)
+                left -= 1
+                yield k
+
     def save(self, picked):
-        found = [cases.Case(*self.inputs[k], *self.base[self.inputs[k]][:3]) for k in picked]
+        found = [self.case(k) for k in [*picked, *self.more_entries(picked)]]
         found.sort(key=lambda case: (case.row, len(case.data), case.input))
         cases.save(cases.CHOSEN, found)
         print("chosen", len(found), "of", len(self.inputs), "inputs, beside", len(self.by_hand), "by hand;",
@@ -106,6 +122,11 @@ class RowReadings:
     def name(self, k):
         row, data, conversion = self.inputs[k]
         return "%s %s%s" % (row, data.decode("latin-1"), " under the conversion flag" if conversion else "")
+
+
+def kinds_of(entries):
+    """The list of each entry, and the names of its node and of what stands in it."""
+    return tuple((which, trees[0][1], trees[0][2][0][1]) for which, trees in entries)
 
 
 # ---- what is expected

@@ -4,7 +4,7 @@
     tools/write_printings.py
 
 From printings-by-hand.jsonl, printings.jsonl.xz and events.jsonl.xz in tools/readings (printings.py) it makes the modules
-Prints1 and so on, Tells1 and so on, Expanded, Declares and ByHand in crates/demangle_printing/proofs, and names them in
+Prints1, Tells1, Expanded1 and so on, Declares and ByHand in crates/demangle_printing/proofs, and names them in
 Lib.antt there. The trees that no name has are written out here, and plain types are made by chance, always the same.
 """
 import os
@@ -16,7 +16,7 @@ import printings
 from write_readings import listed
 
 FOLDER = os.path.join(antt.CRATES, "demangle_printing", "proofs")
-A_FILE = 70  # printings in a file
+A_FILE = 430  # lines of printings in a file
 WIDTH = 118  # columns of a line
 CAUSES = {"UnexpectedEnd": "(Unread End)", "UnexpectedText": "(Unread Text)", "BadBackReference": "(Unread Bad)",
           "Overflow": "(Unread Over)", "TooMuchRecursion": "Deep"}
@@ -205,7 +205,13 @@ def uses_of(lines):
 
 def write_all(stem, about, statements):
     """In several files; gives back their names."""
-    parts = [statements[i:i + A_FILE] for i in range(0, len(statements), A_FILE)]
+    parts, length = [[]], 0
+    for statement in statements:
+        length += len(filled(statement)) + len(unfoldings()) + 2
+        if length > A_FILE:
+            parts.append([])
+            length = 0
+        parts[-1].append(statement)
     return [write("%s%d" % (stem, number + 1), about, part) for number, part in enumerate(parts)]
 
 
@@ -216,12 +222,13 @@ def main():
     chosen = printings.lines_of(printings.CHOSEN)
     by_hand = [printing_of(line) for line in printings.lines_of(printings.BY_HAND)] + [tree_of(*tree) for tree in TREES]
     plain = [line for line in chosen if line["outcome"][0] == "Text" and options_of(line) == "defaults"]
-    expanded = ["PrintsExpanded %s %s" % (name_of(line), outcome_of(line)) for line in plain if not re.search(r"T\d*_", line["name"])]
+    plain = [line for line in plain if not re.search(r"T\d*_", line["name"])]  # without template parameters
+    expanded = ["PrintsExpanded %s %s" % (name_of(line), outcome_of(line)) for line in plain]
     stems = write_all("Prints", "Printings of whole names, by computation.", [printing_of(line) for line in chosen])
     stems += write_all("Tells", "Events of whole names, by computation.",
                        [events_of(line) for line in printings.lines_of(printings.EVENTS)])
+    stems += write_all("Expanded", "Printings of expanded names, by computation.", expanded[::3])
     stems += [write("ByHand", "Printings that were written out by hand.", by_hand),
-              write("Expanded", "Printings of expanded names, by computation.", expanded[::3]),
               write("Declares", "Plain types that print as they are declared, by computation.", plain_types(60), "(refl, refl)")]
     library = os.path.join(FOLDER, "Lib.antt")
     with open(library) as file:

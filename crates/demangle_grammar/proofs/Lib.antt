@@ -22,6 +22,10 @@ pub mod Back
 pub mod Conforms
 pub mod Firsts
 pub mod ReadRows1
+pub mod ReadRows2
+pub mod ReadRows3
+pub mod ReadRows4
+pub mod ReadRows5
 pub mod ByHand
 pub mod Expands
 pub mod SayTheSame

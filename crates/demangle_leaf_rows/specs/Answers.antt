@@ -17,9 +17,9 @@ Answers tree (Ok x) table reply = reply ≡ Found (tree x.0) (here (spot x.1) ta
 Answers tree (Err e) table reply = reply ≡ Refused (kind e)
 
 -- the same, where memory may be wanting
-abbrev pub AnswersInMemory : {X : Type 0} → (X → Core) → Result (X × IndexStr) Error → Table → Reply → Type 0
-AnswersInMemory tree (Ok x) table reply = reply ≡ Found (tree x.0) (here (spot x.1) table)
-AnswersInMemory tree (Err e) table reply = (e ≡ OutOfMemory) ⊎ (reply ≡ Refused (kind e))
+abbrev pub AnswersOrOutOfMemory : {X : Type 0} → (X → Core) → Result (X × IndexStr) Error → Table → Reply → Type 0
+AnswersOrOutOfMemory tree (Ok x) table reply = reply ≡ Found (tree x.0) (here (spot x.1) table)
+AnswersOrOutOfMemory tree (Err e) table reply = (e ≡ OutOfMemory) ⊎ (reply ≡ Refused (kind e))
 
 -- with so many levels left, the conversion flag, and this table
 abbrev pub AnswersRow : {X : Type 0} → (X → Core) → Row → (levels : ℕ) → Bool → IndexStr
@@ -34,7 +34,7 @@ AnswersLeaf tree row levels conversion input result =
     (table : Table) → AnswersRow tree row levels conversion input result table
 
 -- the same, where memory may be wanting
-abbrev pub AnswersLeafInMemory : {X : Type 0} → (X → Core) → Row → (levels : ℕ) → Bool → IndexStr
+abbrev pub AnswersLeafOrOutOfMemory : {X : Type 0} → (X → Core) → Row → (levels : ℕ) → Bool → IndexStr
     → Result (X × IndexStr) Error → Type 0
-AnswersLeafInMemory tree row levels conversion input result =
-    (table : Table) → AnswersInMemory tree result table (cread levels row conversion (here (spot input) table) [])
+AnswersLeafOrOutOfMemory tree row levels conversion input result =
+    (table : Table) → AnswersOrOutOfMemory tree result table (cread levels row conversion (here (spot input) table) [])

@@ -4,7 +4,7 @@ use Rattle.demangle_text.specs.declared.index_str.IndexStr.{IndexStr}
 use Rattle.demangle_text.specs.declared.error.Error.{Error}
 use Rattle.demangle_core.specs.Core.{Core}
 use Rattle.demangle_grammar.specs.Rule.{Row}
-use Rattle.demangle_leaf_rows.specs.Answers.{AnswersLeaf, AnswersLeafInMemory}
+use Rattle.demangle_leaf_rows.specs.Answers.{AnswersLeaf, AnswersLeafOrOutOfMemory}
 
 -- the limit on levels, the level that was entered last, and whether a conversion operator's type is being read
 pub record Context : Type 0 where
@@ -22,7 +22,7 @@ abbrev pub AnswersInContext : {X : Type 0} → (X → Core) → Row → Context 
 AnswersInContext tree row c input result = AnswersLeaf tree row (levels_left c) c.conversion input result
 
 -- the same, where memory may be wanting
-abbrev pub AnswersInMemoryInContext : {X : Type 0} → (X → Core) → Row → Context → IndexStr
+abbrev pub AnswersInContextOrOutOfMemory : {X : Type 0} → (X → Core) → Row → Context → IndexStr
     → Result (X × IndexStr) Error → Type 0
-AnswersInMemoryInContext tree row c input result =
-    AnswersLeafInMemory tree row (levels_left c) c.conversion input result
+AnswersInContextOrOutOfMemory tree row c input result =
+    AnswersLeafOrOutOfMemory tree row (levels_left c) c.conversion input result

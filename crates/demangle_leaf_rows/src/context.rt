@@ -51,10 +51,10 @@ impl ParseContext {
 
     /// Enters a level. `TooMuchRecursion`, and the context as before, exactly where the level plus 1 is the limit.
     pub fn enter(&mut self) -> Result<()>
-        ensures { MatchResult result
-            (λ x. (self.old.level + 1 < self.old.limit)
-            × (self.new ≡ record { limit = self.old.limit; level = self.old.level + 1; conversion = self.old.conversion }))
-            (λ e. (e ≡ TooMuchRecursion) × (self.old.level + 1 ≡ self.old.limit) × (self.new ≡ self.old)) }
+        ensures { let c = self.old in MatchResult result
+            (λ x. (c.level + 1 < c.limit)
+            × (self.new ≡ record { limit = c.limit; level = c.level + 1; conversion = c.conversion }))
+            (λ e. (e ≡ TooMuchRecursion) × (c.level + 1 ≡ c.limit) × (self.new ≡ c)) }
     {
         let next = self.level + 1;
         if next == self.limit {

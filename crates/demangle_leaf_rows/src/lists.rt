@@ -5,7 +5,7 @@ ghost use Rattle.demangle_text.specs.Kind.{Gives};
 ghost use Rattle.demangle_text.specs.Spot.{spot};
 ghost use Rattle.demangle_leaf_nodes.specs.TreeLeaves.{tree_of_abi_tags, tree_of_clone_suffix};
 ghost use Rattle.demangle_grammar.specs.Rule.{Row};
-ghost use Rattle.demangle_leaf_rows.specs.Answers.{AnswersLeafInMemory};
+ghost use Rattle.demangle_leaf_rows.specs.Answers.{AnswersLeafOrOutOfMemory};
 ghost use Rattle.demangle_leaf_rows.specs.DottedNumbers.{AnswersNumbers, dotted_number};
 
 use crate::depth::{Depth, hidden};
@@ -21,7 +21,7 @@ pub fn abi_tags<'b>(
     depth: Depth,
     input: IndexStr<'b>,
 ) -> Result<(AbiTags, IndexStr<'b>)>
-    ensures { AnswersLeafInMemory tree_of_abi_tags Row.abi_tags depth.levels depth.conversion input.entry result }
+    ensures { AnswersLeafOrOutOfMemory tree_of_abi_tags Row.abi_tags depth.levels depth.conversion input.entry result }
 {
     let depth = depth.enter()?;
     let mut tags = Vec::new(alloc);
@@ -69,7 +69,8 @@ pub fn clone_suffix<'b>(
     depth: Depth,
     input: IndexStr<'b>,
 ) -> Result<(CloneSuffix, IndexStr<'b>)>
-    ensures { AnswersLeafInMemory tree_of_clone_suffix Row.clone_suffix depth.levels depth.conversion input.entry result }
+    ensures { AnswersLeafOrOutOfMemory tree_of_clone_suffix Row.clone_suffix
+        depth.levels depth.conversion input.entry result }
 {
     let depth = depth.enter()?;
     let rest = consume(b".", input)?;

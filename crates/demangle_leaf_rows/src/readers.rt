@@ -12,7 +12,7 @@ ghost use Rattle.demangle_leaf_nodes.specs.TreeLeaves.{tree_of_resource_name, tr
 ghost use Rattle.demangle_leaf_nodes.specs.TreeLeaves.{tree_of_source_name, tree_of_template_param};
 ghost use Rattle.demangle_leaf_nodes.specs.TreeLeaves.{tree_of_unnamed_type_name, tree_of_v_offset};
 ghost use Rattle.demangle_grammar.specs.Rule.{Row};
-ghost use Rattle.demangle_leaf_rows.specs.Context.{AnswersInContext, AnswersInMemoryInContext};
+ghost use Rattle.demangle_leaf_rows.specs.Context.{AnswersInContext, AnswersInContextOrOutOfMemory};
 
 use crate::context::ParseContext;
 use crate::lists::{abi_tags, clone_suffix};
@@ -76,7 +76,8 @@ pub fn read_clone_type_identifier<'b>(
     ctx: &mut ParseContext,
     input: IndexStr<'b>,
 ) -> Result<(CloneTypeIdentifier, IndexStr<'b>)>
-    ensures reads { AnswersInContext tree_of_clone_type_identifier Row.clone_type_identifier ctx.old input.entry result }
+    ensures reads { AnswersInContext tree_of_clone_type_identifier Row.clone_type_identifier
+        ctx.old input.entry result }
     ensures context { ctx.new ≡ ctx.old }
 {
     CloneTypeIdentifier::read_leaf(ctx.depth(), input)
@@ -203,7 +204,7 @@ pub fn read_abi_tags<'b>(
     ctx: &mut ParseContext,
     input: IndexStr<'b>,
 ) -> Result<(AbiTags, IndexStr<'b>)>
-    ensures reads { AnswersInMemoryInContext tree_of_abi_tags Row.abi_tags ctx.old input.entry result }
+    ensures reads { AnswersInContextOrOutOfMemory tree_of_abi_tags Row.abi_tags ctx.old input.entry result }
     ensures context { ctx.new ≡ ctx.old }
 {
     abi_tags(alloc, ctx.depth(), input)
@@ -216,7 +217,7 @@ pub fn read_clone_suffix<'b>(
     ctx: &mut ParseContext,
     input: IndexStr<'b>,
 ) -> Result<(CloneSuffix, IndexStr<'b>)>
-    ensures reads { AnswersInMemoryInContext tree_of_clone_suffix Row.clone_suffix ctx.old input.entry result }
+    ensures reads { AnswersInContextOrOutOfMemory tree_of_clone_suffix Row.clone_suffix ctx.old input.entry result }
     ensures context { ctx.new ≡ ctx.old }
 {
     clone_suffix(alloc, ctx.depth(), input)

@@ -1,19 +1,19 @@
 -- One lemma for each item of an act: the call that does it, and what was done behind it.
-use Rattle.std.proofs.Common.{◌≡◌, ℕ, zero, suc, Bool, true, false, List, [], ◌∷◌, ◌++◌, length, Option, Some, None}
+use Rattle.std.proofs.Common.{◌≡◌, ℕ, Bool, true, false, List, [], Option, Some, None}
 use Rattle.std.proofs.Common.{refl, sym, ◌∙◌, ap, subst}
 use Rattle.std.proofs.lemmas.List.{append-nil}
 use Rattle.demangle_core.specs.Core.{Core}
-use Rattle.demangle_printing.specs.State.{Fault, Flag, params, Held, State, Answer, yes, no, after, bind, written}
-use Rattle.demangle_printing.specs.State.{spaced, flagged, pushed, popped, is_own}
+use Rattle.demangle_printing.specs.State.{Fault, Flag, State, Answer, yes, no, bind, written}
+use Rattle.demangle_printing.specs.State.{spaced, flagged, popped}
 use Rattle.demangle_printing.specs.Scope.{Scope}
-use Rattle.demangle_printing.specs.Act.{Job, Act, done, text, space, fail, call, block, ask, held, pop, fence, set}
-use Rattle.demangle_printing.specs.Act.{with_params, named, act, owned}
+use Rattle.demangle_printing.specs.Act.{Job, Act, done, text, space, fail, call, block, ask, pop, set}
+use Rattle.demangle_printing.specs.Act.{named, act, owned}
 use Rattle.demangle_printing.specs.Reader.{chosen}
 use Rattle.demangle_printing.specs.Laws.{After, Does, OwnDoes}
 use Rattle.demangle_meets.specs.Page.{Page, Trouble, at}
 use Rattle.demangle_meets.specs.Goes.{Goes}
 use Rattle.demangle_meets.specs.Place.{Place}
-use Rattle.demangle_meets.specs.Calls.{Keeps, Steps, Pushes, PopsOwn, SetsAside, BringsBack}
+use Rattle.demangle_meets.specs.Calls.{Keeps, Steps, PopsOwn}
 use Rattle.demangle_meets.specs.Meets.{deeper, fitting, Ready, Meets, Closes}
 use Rattle.demangle_meets.proofs.Told.{after_none}
 use Rattle.demangle_meets.proofs.Goes.{no_trouble, goes_then, goes_after, goes_as, goes_nowhere}

@@ -1,12 +1,12 @@
 -- One lemma for each item of an act that has another act within: an item in the midst, the items set aside, with
 -- parameters.
-use Rattle.std.proofs.Common.{◌≡◌, ℕ, Bool, true, false, List, [], ◌∷◌, ◌++◌, length, Option, Some, None, refl, sym}
-use Rattle.std.proofs.Common.{◌∙◌, ap, subst}
+use Rattle.std.proofs.Common.{◌≡◌, ℕ, true, [], ◌++◌, length, None, refl, sym}
+use Rattle.std.proofs.Common.{◌∙◌, subst}
 use Rattle.demangle_core.specs.Core.{Core}
-use Rattle.demangle_printing.specs.State.{params, Held, State, Answer, yes, no, after, bind, flagged, pushed, is_own}
+use Rattle.demangle_printing.specs.State.{params, State, yes, bind, flagged, pushed, is_own}
 use Rattle.demangle_printing.specs.Act.{Act, held, fence, with_params, act, owned}
 use Rattle.demangle_printing.specs.Laws.{After, Does, OwnDoes, IsReady}
-use Rattle.demangle_meets.specs.Page.{Page, Trouble, at}
+use Rattle.demangle_meets.specs.Page.{Page, at}
 use Rattle.demangle_meets.specs.Goes.{Goes}
 use Rattle.demangle_meets.specs.Place.{Place}
 use Rattle.demangle_meets.specs.Calls.{Keeps, Steps, Pushes, SetsAside, BringsBack}

@@ -6,16 +6,16 @@ use Rattle.demangle_core.specs.Core.{Core}
 use Rattle.demangle_printing.specs.State.{Kind, Event, opened, closed, Fault, State, Answer, yes, no, after, bind}
 use Rattle.demangle_printing.specs.State as state
 use Rattle.demangle_printing.specs.Act.{Act, event, act}
-use Rattle.demangle_printing.specs.Laws.{After, Does, open_behind, AreOpen, AreClosed, AreBracketed}
+use Rattle.demangle_printing.specs.Laws.{After, Does, open_behind, AreBracketed}
 use Rattle.demangle_printing.proofs.Closed.{none_open, open_then, act_bracketed, print_bracketed}
-use Rattle.demangle_meets.specs.Page.{Page, Trouble, fault, lost, Loss, failed, refused, full, at}
-use Rattle.demangle_meets.specs.Goes.{events, ends, StandOpen, Stopped, Cut, Counts, Goes}
+use Rattle.demangle_meets.specs.Page.{Page, fault, lost, Loss, failed, refused, at}
+use Rattle.demangle_meets.specs.Goes.{events, ends, StandOpen, Stopped, Cut, Goes}
 use Rattle.demangle_meets.specs.Place.{Place, world_of}
 use Rattle.demangle_meets.specs.Calls.{Keeps, Begins, Ends, most_ended}
-use Rattle.demangle_meets.specs.Meets.{deeper, fitting, Ready, Meets}
+use Rattle.demangle_meets.specs.Meets.{deeper, Ready, Meets}
 use Rattle.demangle_meets.proofs.Told.{Yes, yes_of, after_after, events_after, stopped_before, cut_before}
-use Rattle.demangle_meets.proofs.Goes.{no_trouble, goes_then, goes_after, goes_as, counts_then, counts_same}
-use Rattle.demangle_meets.proofs.Acts.{keeps_then, was_well, then_act}
+use Rattle.demangle_meets.proofs.Goes.{no_trouble, goes_then, goes_as, counts_then, counts_same}
+use Rattle.demangle_meets.proofs.Acts.{keeps_then, then_act}
 
 -- ---- nodes that stand open
 up : (n d : ℕ) → suc (n + d) ≡ suc n + d
@@ -121,7 +121,8 @@ module _ {p : Place} {a m n o : Page} {i : Kind} {v : Bool} {f : Act Core} (d : 
             (ap (act (deeper p) f) (sym (same_state z)) ∙ w.is);
         told = told_more a.told m.told n.told o.told i w.before w.ended e.ended (grown z) w.told (e.told (fault g) y);
         were_open = one_more w.ended e.ended i w.before (at_most v e.ended e.most)
-            (subst IsOpen (ap events w.is) (events_open (act (deeper p) f (at p.level m)) (well_bracketed (at p.level m))))
+            (subst IsOpen (ap events w.is)
+            (events_open (act (deeper p) f (at p.level m)) (well_bracketed (at p.level m))))
             w.were_open;
       }
 

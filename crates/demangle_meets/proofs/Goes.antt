@@ -1,14 +1,14 @@
 -- The relation: one after the other, the same of another function, a level deeper; and the steps of a context.
-use Rattle.std.proofs.Common.{◌≡◌, ℕ, zero, suc, ◌+◌, ◌<◌, ◌⊎◌, List, [], ◌∷◌, ◌++◌, Option, Some, None, refl, sym}
+use Rattle.std.proofs.Common.{◌≡◌, ℕ, [], Option, Some, None, refl, sym}
 use Rattle.std.proofs.Common.{◌∙◌, ap, subst}
-use Rattle.std.proofs.lemmas.List.{append_assoc, append-nil}
+use Rattle.std.proofs.lemmas.List.{append-nil}
 use Rattle.demangle_core.specs.Core.{Core}
-use Rattle.demangle_printing.specs.State.{Event, Fault, State, Answer, yes, no, after, bind}
+use Rattle.demangle_printing.specs.State.{Fault, State, Answer, yes, no, after, bind}
 use Rattle.demangle_printing.specs.Laws.{After}
 use Rattle.demangle_meets.specs.Page.{Page, Trouble, fault, lost, Loss, failed, refused, full, at}
-use Rattle.demangle_meets.specs.Goes.{events, ends, StandOpen, Stopped, Cut, Rose, Counts, Goes}
+use Rattle.demangle_meets.specs.Goes.{Stopped, Cut, Rose, Counts, Goes}
 use Rattle.demangle_meets.proofs.Told.{after_bind, Yes, yes_of, yes_after, stopped_behind, cut_behind, cut_before}
-use Rattle.demangle_meets.proofs.Told.{stopped_before, stand_none}
+use Rattle.demangle_meets.proofs.Told.{stopped_before}
 
 -- ---- trouble
 pub no_trouble : {A : Type 0} (t : Trouble) (x : Option Trouble) → x ≡ None → x ≡ Some t → A

@@ -1,19 +1,19 @@
 -- The word for a whole job.
-use Rattle.std.proofs.Common.{◌≡◌, ℕ, ◌+◌, ◌≤◌, List, ◌++◌}
-use Rattle.std.proofs.Common.{Option, Some, None, refl, sym, ◌∙◌, ap, subst, arith}
+use Rattle.std.proofs.Common.{◌≡◌, ℕ, ◌+◌, ◌≤◌, List}
+use Rattle.std.proofs.Common.{Some, None, sym, subst, arith}
 use Rattle.demangle_core.specs.Core.{Core}
-use Rattle.demangle_printing.specs.State.{Event, Fault, Held, State, Answer, yes, no}
+use Rattle.demangle_printing.specs.State.{Event, Fault, State, Answer, yes, no}
 use Rattle.demangle_printing.specs.Scope.{Scope}
-use Rattle.demangle_printing.specs.Act.{Job, done, call, act}
-use Rattle.demangle_printing.specs.Laws.{After, Does, AreClosed, AreOpen, AreBracketed, open_behind}
+use Rattle.demangle_printing.specs.Act.{Job, done, call}
+use Rattle.demangle_printing.specs.Laws.{AreClosed, AreOpen, AreBracketed}
 use Rattle.demangle_printing.specs.Laws.{IsFitting}
 use Rattle.demangle_printing.proofs.Closed.{print_bracketed}
 use Rattle.demangle_printing.proofs.Fits.{stays_fitting}
-use Rattle.demangle_meets.specs.Page.{Page, fault, lost, Loss, failed, refused, full, at}
-use Rattle.demangle_meets.specs.Goes.{ends, Rose, Stopped, Goes}
+use Rattle.demangle_meets.specs.Page.{Page, fault, lost, failed, refused, full, at}
+use Rattle.demangle_meets.specs.Goes.{Stopped, Goes}
 use Rattle.demangle_meets.specs.Place.{Place, world_of}
 use Rattle.demangle_meets.specs.Meets.{deeper, fitting, Meets}
-use Rattle.demangle_meets.specs.Laws.{IsListeners, LosesByListener, LeavesFitting, CountsStay}
+use Rattle.demangle_meets.specs.Laws.{LosesByListener, LeavesFitting, CountsStay}
 use Rattle.demangle_meets.specs.Laws.{WasTold, WasStopped, TellsInOrder}
 use Rattle.demangle_meets.proofs.Told.{yes_of}
 use Rattle.demangle_meets.proofs.Goes.{goes_after}

@@ -1,13 +1,12 @@
 -- What lines do in loops and with inner items: lists, items one after the other, joined references, arrays,
 -- parameters.
-use Rattle.std.proofs.Common.{◌≡◌, ℕ, zero, suc, Bool, true, false, List, [], ◌∷◌, length, codes, Option, Some, None}
+use Rattle.std.proofs.Common.{◌≡◌, ℕ, zero, suc, Bool, true, false, List, [], ◌∷◌, length, codes, Some, None}
 use Rattle.std.proofs.Common.{refl, sym, ◌∙◌, ap, subst}
-use Rattle.demangle_core.specs.Core.{Core, Tag}
-use Rattle.demangle_printing.specs.World.{World}
-use Rattle.demangle_printing.specs.State.{Held, NotUtf8, State, yes, no, written, spaced, popped}
+use Rattle.demangle_core.specs.Core.{Core}
+use Rattle.demangle_printing.specs.State.{Held, NotUtf8, yes, no, written, spaced, popped}
 use Rattle.demangle_printing.specs.Scope.{Scope, in_member}
-use Rattle.demangle_printing.specs.Act.{Job, Act, done, text, space, call, block, ask, pop}
-use Rattle.demangle_printing.specs.Rules.{tag, line_of, lines_after, lines_of, members_after, members_of, inner_of}
+use Rattle.demangle_printing.specs.Act.{Act, done, text, space, block, ask}
+use Rattle.demangle_printing.specs.Rules.{tag, line_of, lines_of, members_of}
 use Rattle.demangle_printing.specs.Rules.{turn_from, turns, is_rvalue, pop_if, rvalue_from, rvalues, is_lvalue_top}
 use Rattle.demangle_printing.specs.Rules.{unless, joined}
 use Rattle.demangle_printing.specs.Reader.{text_if, input_text}

@@ -1,21 +1,21 @@
 -- Levels, and what is printed for a part of a node.
-use Rattle.std.proofs.Common.{◌≡◌, ℕ, zero, suc, ◌+◌, List, [], ◌∷◌, Option, Some, None, refl, sym, ◌∙◌, ap, subst}
+use Rattle.std.proofs.Common.{◌≡◌, ℕ, zero, suc, ◌+◌, List, [], Some, None, refl, sym, ◌∙◌, ap, subst}
 use Rattle.std.proofs.lemmas.List.{append-nil}
 use Rattle.demangle_core.specs.Core.{Core, Tag, node, end}
-use Rattle.demangle_printing.specs.World.{Seen, World, nth}
+use Rattle.demangle_printing.specs.World.{World, nth}
 use Rattle.demangle_printing.specs.World as seen
-use Rattle.demangle_printing.specs.State.{TooMuchRecursion, State, Answer, yes, no, after, bind}
+use Rattle.demangle_printing.specs.State.{TooMuchRecursion, State, Answer, yes, no, bind}
 use Rattle.demangle_printing.specs.Scope.{Scope}
 use Rattle.demangle_printing.specs.Act.{Job, line, Act, done, call, block, act}
 use Rattle.demangle_printing.specs.Rules.{itself, its_part, as_optional, as_handle, of_holding, optional_seen}
 use Rattle.demangle_printing.specs.Rules.{handle_seen, of_handle, of_part, line_for, line_of}
 use Rattle.demangle_printing.specs.Print.{body, entered, left_to, print}
 use Rattle.demangle_printing.specs.Laws.{BeginsFitting}
-use Rattle.demangle_meets.specs.Page.{Page, Trouble, at}
+use Rattle.demangle_meets.specs.Page.{Page, at}
 use Rattle.demangle_meets.specs.Goes.{Goes}
 use Rattle.demangle_meets.specs.Place.{Refers, world_of, Place, IsDeeper}
 use Rattle.demangle_meets.specs.Calls.{Steps}
-use Rattle.demangle_meets.specs.Meets.{deeper, fitting, Ready, Meets, Prints}
+use Rattle.demangle_meets.specs.Meets.{deeper, Meets, Prints}
 use Rattle.demangle_meets.proofs.Told.{after_bind, stopped_before, cut_before}
 use Rattle.demangle_meets.proofs.Goes.{goes_as}
 use Rattle.demangle_meets.proofs.Acts.{meets_done, meets_block, meets_job}

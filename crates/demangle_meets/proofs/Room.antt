@@ -1,10 +1,10 @@
 -- Where the levels of all items differ and are below a level, there are no more items than that level.
 use Rattle.std.proofs.Common.{◌≡◌, ℕ, zero, suc, ◌+◌, ◌≤◌, ◌<◌, ◌==◌, Bool, true, false, List, [], ◌∷◌, length, cond}
-use Rattle.std.proofs.Common.{refl, sym, ◌∙◌, ap, subst, arith, nat_lt, eqb, eq-eqb}
+use Rattle.std.proofs.Common.{refl, sym, ◌∙◌, ap, arith, nat_lt, eq-eqb}
 use Rattle.std.proofs.lemmas.Bool.{ltb-true, ltb-false}
 use Rattle.demangle_core.specs.Core.{Core}
 use Rattle.demangle_printing.specs.State.{Held, State}
-use Rattle.demangle_printing.specs.Laws.{one_if, at_level, items_at, most, IsReady}
+use Rattle.demangle_printing.specs.Laws.{one_if, at_level, most, IsReady}
 use Rattle.demangle_meets.specs.Laws.{StacksSuffice}
 
 -- how many items have a level below this one
@@ -50,7 +50,8 @@ under_item (suc n) h hs e = by (λ g. under_item n h hs g) (h.level == n) refl
 all_under : (n : ℕ) (hs : List (Held Core)) → ((v : ℕ) → n ≤ v → at_level v hs ≤ 0) → length hs ≤ under n hs
 all_under n [] e = omega arith
 all_under n (h ∷ hs) e =
-    let a = all_under n hs (λ v g. let x = e v g in let y = no_less (h.level == v) (at_level v hs) in omega (arith, x, y)) in
+    let a =
+      all_under n hs (λ v g. let x = e v g in let y = no_less (h.level == v) (at_level v hs) in omega (arith, x, y)) in
     let b = under_item n h hs (below (nat_lt h.level n) refl) in
     omega (arith, a, b)
   where

@@ -1,16 +1,15 @@
 -- Some lines as terms of their calls, as answers of printing functions have them.
-use Rattle.std.proofs.Common.{◌≡◌, ℕ, zero, suc, Bool, true, false, List, [], ◌∷◌, codes, length, ◌||◌, Option, Some, None}
-use Rattle.std.proofs.Common.{refl, sym, ap, subst}
-use Rattle.demangle_core.specs.Core.{Core, Tag, node, end, chosen}
-use Rattle.demangle_core.specs.Lookups.{as_prefix}
-use Rattle.demangle_printing.specs.World.{World, find}
-use Rattle.demangle_printing.specs.State.{tprefix, nprefix, lambda, TooMuchRecursion, yes, no, written, spaced, flagged}
+use Rattle.std.proofs.Common.{◌≡◌, ℕ, zero, Bool, true, false, List, [], ◌∷◌, codes, length, ◌||◌, Option, Some, None}
+use Rattle.std.proofs.Common.{refl, sym, ap}
+use Rattle.demangle_core.specs.Core.{Core, Tag, node, end}
+use Rattle.demangle_printing.specs.World.{World}
+use Rattle.demangle_printing.specs.State.{tprefix, nprefix, TooMuchRecursion, yes, no, written, spaced, flagged}
 use Rattle.demangle_printing.specs.State.{Held, popped, is_on, is_byte}
 use Rattle.demangle_printing.specs.State as kind
-use Rattle.demangle_printing.specs.Scope.{Scope, with_leaf, with_args}
+use Rattle.demangle_printing.specs.Scope.{Scope, with_leaf}
 use Rattle.demangle_printing.specs.Act.{done, text, call}
 use Rattle.demangle_printing.specs.Act as job
-use Rattle.demangle_printing.specs.Rules.{inner_of, leaf_name_of, args_of, inside_of, lines_of, turns, tag}
+use Rattle.demangle_printing.specs.Rules.{inner_of, leaf_name_of, inside_of, lines_of, turns, tag}
 use Rattle.demangle_printing.specs.Rules.{is_rvalue, is_lvalue_top, rvalues, joined}
 use Rattle.demangle_printing.specs.Arrays.{array, turn_node, array_turns}
 use Rattle.demangle_printing.specs.Parameters.{some, wanted, is_kept, is_void, space_unless, explicit_object}
@@ -18,8 +17,8 @@ use Rattle.demangle_printing.specs.Parameters.{parameters_end}
 use Rattle.demangle_printing.specs.Reader.{run}
 use Rattle.demangle_printing.specs.Step.{Step}
 use Rattle.demangle_printing.specs.Print.{body}
-use Rattle.demangle_printing.specs.Lines.{line_steps, inside_steps}
-use Rattle.demangle_printing.specs.Lines.Functions.{in_leaf_scope, in_function}
+use Rattle.demangle_printing.specs.Lines.{line_steps}
+use Rattle.demangle_printing.specs.Lines.Functions.{in_leaf_scope}
 use Rattle.demangle_meets.specs.Page.{Page}
 use Rattle.demangle_meets.specs.Place.{Place, IsDeeper, world_of}
 use Rattle.demangle_meets.specs.Calls.{Steps, Pushes, PopsOwn, KeepsTop, Returns, SetsAside, BringsBack, Begins}

@@ -1,5 +1,5 @@
 -- Items that are done or kept, one after the other, from the top.
-use Rattle.std.proofs.Common.{◌≡◌, ℕ, zero, suc, Bool, true, false, List, [], ◌∷◌, length, Option, Some, None, refl}
+use Rattle.std.proofs.Common.{◌≡◌, ℕ, zero, suc, Bool, true, false, List, [], ◌∷◌, length, None, refl}
 use Rattle.std.proofs.Common.{sym, ◌∙◌, ap, subst}
 use Rattle.demangle_core.specs.Core.{Core}
 use Rattle.demangle_printing.specs.State.{Held, State, Answer, yes, no, after, bind, popped}

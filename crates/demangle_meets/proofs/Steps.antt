@@ -1,13 +1,12 @@
 -- The steps of a context, from what its calls did to the page.
-use Rattle.std.proofs.Common.{◌≡◌, ℕ, zero, suc, ◌<◌, ◌⊎◌, List, [], ◌∷◌, ◌++◌, Bool, true, false, length, map, Option}
+use Rattle.std.proofs.Common.{◌≡◌, ℕ, List, [], ◌++◌, true, false, length, map}
 use Rattle.std.proofs.Common.{Some, None, refl, sym, ◌∙◌, ap, subst}
-use Rattle.std.proofs.lemmas.List.{append_assoc, append-nil}
+use Rattle.std.proofs.lemmas.List.{append-nil}
 use Rattle.demangle_core.specs.Core.{Core}
 use Rattle.demangle_printing.specs.State.{Event, byte, Fault, TooLong, State, Answer, yes, no, after, written, wrote}
 use Rattle.demangle_printing.specs.State.{has_room}
 use Rattle.demangle_meets.specs.Page.{Page, Trouble, fault, lost, Loss, failed, refused, full, at}
-use Rattle.demangle_meets.specs.Goes.{events, Stopped, Cut, Rose, Counts, Goes}
-use Rattle.demangle_meets.specs.Calls.{Steps}
+use Rattle.demangle_meets.specs.Goes.{events, Rose, Counts, Goes}
 use Rattle.demangle_meets.proofs.Told.{stand_none}
 use Rattle.demangle_meets.proofs.Goes.{no_trouble, counts_same}
 
@@ -67,7 +66,8 @@ goes_wrong {l} {a} {b} f n o e told q =
 
 -- It was lost, and nothing of it was told.
 pub goes_lost : {l : ℕ} {a b : Page} {g : State Core → Answer Core} {S : Type 0} (c : Loss) → a.trouble ≡ None →
-    b.trouble ≡ Some (lost c) → b.told ≡ a.told → (c ≡ full → S → ⊥) → Counts failed a.faults b.faults None (Some (lost c)) →
+    b.trouble ≡ Some (lost c) → b.told ≡ a.told → (c ≡ full → S → ⊥) →
+    Counts failed a.faults b.faults None (Some (lost c)) →
     Counts refused a.refusals b.refusals None (Some (lost c)) → Goes l a b g S
 goes_lost {l} {a} {b} {g} c n o told fits p q =
     record {
@@ -90,7 +90,12 @@ goes_lost {l} {a} {b} {g} c n o told fits p q =
     }
 
 counts_rose : {why : Loss} {i j : ℕ} → Rose i j → Counts why i j None (Some (lost why))
-counts_rose r = record { rose = λ _ _. r; same = λ _ h. absurd (h refl); stays = λ t z. absurd (let e : None ≡ Some t = z in cc) }
+counts_rose r =
+    record {
+      rose = λ _ _. r;
+      same = λ _ h. absurd (h refl);
+      stays = λ t z. absurd (let e : None ≡ Some t = z in cc);
+    }
 
 -- The listener failed: its count of these says so.
 pub goes_failed : {l : ℕ} {a b : Page} {g : State Core → Answer Core} {S : Type 0} → a.trouble ≡ None →

@@ -1,5 +1,5 @@
 -- What the calls of a context do, each one step.
-use Rattle.std.specs.Prelude.{◌≡◌, ℕ, zero, suc, ◌≤◌, Bool, true, false, List, [], ◌∷◌, ◌++◌, length, Option, Some, None}
+use Rattle.std.specs.Prelude.{◌≡◌, ℕ, ◌≤◌, Bool, true, false, List, [], ◌∷◌, ◌++◌, length, Some, None}
 use Rattle.demangle_core.specs.Core.{Core}
 use Rattle.demangle_printing.specs.State.{Kind, opened, closed, Held, State, Answer, yes, pushed, popped, is_own}
 use Rattle.demangle_printing.specs.Act.{keeping, returned}

@@ -1,5 +1,5 @@
 -- What the word comes to for a job that was done from page to page, as the calls of printing need it.
-use Rattle.std.specs.Prelude.{◌≡◌, ℕ, ◌+◌, ◌≤◌, List, [], ◌++◌, length, Option, Some, None}
+use Rattle.std.specs.Prelude.{◌≡◌, ℕ, ◌+◌, ◌≤◌, List, ◌++◌, length, Some, None}
 use Rattle.demangle_core.specs.Core.{Core}
 use Rattle.demangle_printing.specs.State.{Event, Fault, Held, State, Answer, yes, no}
 use Rattle.demangle_printing.specs.Scope.{Scope}

@@ -1,5 +1,5 @@
 -- The word of printing functions: from one page to another an act was done.
-use Rattle.std.specs.Prelude.{◌≡◌, ℕ, suc, List, [], Bool, Option, Some, None}
+use Rattle.std.specs.Prelude.{ℕ, List, Bool, Some}
 use Rattle.demangle_core.specs.Core.{Core}
 use Rattle.demangle_printing.specs.State.{Held, State, Answer, is_own}
 use Rattle.demangle_printing.specs.Scope.{Scope}

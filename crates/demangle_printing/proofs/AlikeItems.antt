@@ -1,28 +1,19 @@
 -- In two worlds that look alike inner items, parameters and arrays are alike.
-use Rattle.std.specs.Prelude.{◌≡◌, ℕ, zero, suc, ◌+◌, Bool, true, false, not, ◌&&◌, ◌||◌, List, [], ◌∷◌, length, drop}
-use Rattle.std.specs.Prelude.{map, Option, Some, None, Result, Ok, Err, is_some, bytes_eq}
-use Rattle.std.specs.Str.{is_utf8}
-use Rattle.std.proofs.Common.{refl, ap, ◌∙◌, sym, subst, true≢false}
+use Rattle.std.specs.Prelude.{◌≡◌, ℕ, zero, suc, Bool, true, false, ◌||◌, List, [], ◌∷◌, length}
+use Rattle.std.specs.Prelude.{Option, Some, None}
+use Rattle.std.proofs.Common.{refl, ap, ◌∙◌, subst}
 use Rattle.demangle_core.specs.Core.{Tag}
-use Rattle.demangle_core.specs.Lookups.{Sort, as_prefix}
-use Rattle.demangle_printing.specs.World.{World, Seen, nothing, node, bytes, number, flag, word, nth, parts}
-use Rattle.demangle_printing.specs.World.{parts_seen, part_in, find, listed, see}
-use Rattle.demangle_printing.specs.State.{Fault, Held, is_on, is_byte, State}
-use Rattle.demangle_printing.specs.Scope.{Meant, leaf, arguments, Scope, with_leaf, with_args, in_member, leaf_in}
-use Rattle.demangle_printing.specs.Scope.{scope_leaf}
-use Rattle.demangle_printing.specs.Act.{Job, Act, done, text, space, fail, call, block, ask, held, pop, sift, fence}
-use Rattle.demangle_printing.specs.Act.{event, set, with_params, named, act}
-use Rattle.demangle_printing.specs.Act as job
-use Rattle.demangle_printing.specs.Step.{Piece, Test, Step}
-use Rattle.demangle_printing.specs.Texts.{leaf_text, spelled_by, ordinal_of, is_anonymous, is_negative, without_sign}
-use Rattle.demangle_printing.specs.Texts.{characters}
-use Rattle.demangle_printing.specs.Rules.{quoted, Holding, of_holding, as_optional, as_handle, is_set, tag_seen}
-use Rattle.demangle_printing.specs.Rules.{is_seen_word, tag, optional_seen, of_optional, handle_seen, of_handle}
-use Rattle.demangle_printing.specs.Rules.{of_part, line_for, line_of, lines_after, lines_of, members_after}
-use Rattle.demangle_printing.specs.Rules.{members_of, args_of, leaf_name_of, leaf_seen, leaf_act, parameters_with}
+use Rattle.demangle_core.specs.Lookups.{as_prefix}
+use Rattle.demangle_printing.specs.World.{World}
+use Rattle.demangle_printing.specs.World.{find, listed, see}
+use Rattle.demangle_printing.specs.State.{Held, is_byte}
+use Rattle.demangle_printing.specs.Scope.{Scope}
+use Rattle.demangle_printing.specs.Act.{Act, done, space}
+use Rattle.demangle_printing.specs.Rules.{quoted}
+use Rattle.demangle_printing.specs.Rules.{tag, of_handle}
+use Rattle.demangle_printing.specs.Rules.{args_of, parameters_with}
 use Rattle.demangle_printing.specs.Rules.{inside_node, inside_of, inner_of, turn_from, turns, emptied, is_rvalue}
 use Rattle.demangle_printing.specs.Rules.{is_lvalue, pop_if, rvalue_from, rvalues, is_lvalue_top, unless, joined}
-use Rattle.demangle_printing.specs.Rules as holding
 use Rattle.demangle_printing.specs.Parameters.{Wanted, or_spaced, wants, wanted, space_unless, opening, closing}
 use Rattle.demangle_printing.specs.Parameters.{any_set, is_kept_node, is_kept, is_void, explicit_object}
 use Rattle.demangle_printing.specs.Parameters.{parameters_end, parameters_in, parameters_act}
@@ -30,24 +21,14 @@ use Rattle.demangle_printing.specs.Parameters as want
 use Rattle.demangle_printing.specs.Arrays.{Turn, qualified_turn, is_array, is_array_tree, turn_node, before_bounds}
 use Rattle.demangle_printing.specs.Arrays.{array_turn, array_from, array_turns, around_array}
 use Rattle.demangle_printing.specs.Arrays as turn
-use Rattle.demangle_printing.specs.Reader.{bytes_seen, is_present, text_if, input_text, spelled_act, texts, chosen}
-use Rattle.demangle_printing.specs.Reader.{operand_in, blocks, spaced_if, says, is_special_tree, holds, is_external}
-use Rattle.demangle_printing.specs.Reader.{is_bare_node, is_bare, held_for, need_leaf, found_leaf, place_of, run}
-use Rattle.demangle_printing.specs.Lines.{line_steps, inside_steps}
-use Rattle.demangle_printing.specs.Print.{steps_for, steps_inside, source_or, body, entered, left_to, print}
-use Rattle.demangle_printing.specs.Laws.{is_param}
-use Rattle.demangle_printing.proofs.Alike.{OptionR, ListR, SeenR, MeantR, ScopeR, HeldR, StateR, AnswerR, JobR, ActR}
-use Rattle.demangle_printing.proofs.Alike.{bind_alike, act_alike, length_alike}
-use Rattle.demangle_printing.proofs.AlikeParts.{bare, spelled_bare, ordinal_bare, bytes_bare, set_bare, tag_bare}
-use Rattle.demangle_printing.proofs.AlikeParts.{word_bare, Worlds, bare_alike, parts_alike, nth_alike, part_alike}
-use Rattle.demangle_printing.proofs.AlikeParts.{find_alike, see_alike, listed_alike, drop_list, tag_alike, tags_seen}
-use Rattle.demangle_printing.proofs.AlikeParts.{sets_seen, words_seen, bytes_alike, any_alike, holding_alike}
-use Rattle.demangle_printing.proofs.AlikeParts.{optional_seen_alike, optional_alike, handle_seen_alike, handle_alike}
-use Rattle.demangle_printing.proofs.AlikeParts.{printed_alike, line_for_alike, line_alike, after_alike, list_alike}
-use Rattle.demangle_printing.proofs.AlikeParts.{member_alike, members_after_alike, members_alike, args_alike}
-use Rattle.demangle_printing.proofs.AlikeParts.{leaf_name_alike, with_leaf_alike, with_args_alike, ResultR}
-use Rattle.demangle_printing.proofs.AlikeParts.{leaf_in_alike, scope_leaf_alike, found_alike, leaf_node_alike}
-use Rattle.demangle_printing.proofs.AlikeParts.{leaf_seen_alike, leaf_alike, need_alike}
+use Rattle.demangle_printing.proofs.Alike.{OptionR, ListR, ScopeR, HeldR, JobR, ActR}
+use Rattle.demangle_printing.proofs.Alike.{length_alike}
+use Rattle.demangle_printing.proofs.AlikeParts.{Worlds}
+use Rattle.demangle_printing.proofs.AlikeParts.{find_alike, see_alike, listed_alike, drop_list, tag_alike}
+use Rattle.demangle_printing.proofs.AlikeParts.{words_seen, any_alike}
+use Rattle.demangle_printing.proofs.AlikeParts.{handle_alike}
+use Rattle.demangle_printing.proofs.AlikeParts.{list_alike}
+use Rattle.demangle_printing.proofs.AlikeParts.{args_alike}
 
 module _ {X Y : Type 0} (v : World X) (w : World Y) (R : X → Y → Type 0) (W : Worlds v w R) where
   -- ---- inner items

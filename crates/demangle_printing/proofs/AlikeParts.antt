@@ -1,21 +1,15 @@
 -- In two worlds that look alike the parts of trees, their lines and their scopes are alike.
-use Rattle.std.specs.Prelude.{◌≡◌, ℕ, zero, suc, ◌+◌, Bool, true, false, not, ◌&&◌, ◌||◌, List, [], ◌∷◌, length, drop}
-use Rattle.std.specs.Prelude.{map, Option, Some, None, Result, Ok, Err, is_some, bytes_eq}
-use Rattle.std.specs.Str.{is_utf8}
-use Rattle.std.proofs.Common.{refl, ap, ◌∙◌, sym, subst, true≢false}
+use Rattle.std.specs.Prelude.{◌≡◌, ℕ, zero, suc, ◌||◌, List, [], ◌∷◌, drop}
+use Rattle.std.specs.Prelude.{Option, Some, None, Result, Ok, Err}
+use Rattle.std.proofs.Common.{refl, ap, ◌∙◌, sym, subst}
 use Rattle.demangle_core.specs.Core.{Tag}
-use Rattle.demangle_core.specs.Lookups.{Sort, as_prefix}
+use Rattle.demangle_core.specs.Lookups.{Sort}
 use Rattle.demangle_printing.specs.World.{World, Seen, nothing, node, bytes, number, flag, word, nth, parts}
 use Rattle.demangle_printing.specs.World.{parts_seen, part_in, find, listed, see}
-use Rattle.demangle_printing.specs.State.{Fault, Held, is_on, is_byte, State}
+use Rattle.demangle_printing.specs.State.{Fault}
 use Rattle.demangle_printing.specs.Scope.{Meant, leaf, arguments, Scope, with_leaf, with_args, in_member, leaf_in}
 use Rattle.demangle_printing.specs.Scope.{scope_leaf}
-use Rattle.demangle_printing.specs.Act.{Job, Act, done, text, space, fail, call, block, ask, held, pop, sift, fence}
-use Rattle.demangle_printing.specs.Act.{event, set, with_params, named, act}
-use Rattle.demangle_printing.specs.Act as job
-use Rattle.demangle_printing.specs.Step.{Piece, Test, Step}
-use Rattle.demangle_printing.specs.Texts.{leaf_text, spelled_by, ordinal_of, is_anonymous, is_negative, without_sign}
-use Rattle.demangle_printing.specs.Texts.{characters}
+use Rattle.demangle_printing.specs.Texts.{leaf_text, spelled_by, ordinal_of}
 use Rattle.demangle_printing.specs.Rules.{quoted, Holding, of_holding, as_optional, as_handle, is_set, tag_seen}
 use Rattle.demangle_printing.specs.Rules.{is_seen_word, tag, optional_seen, of_optional, handle_seen, of_handle}
 use Rattle.demangle_printing.specs.Rules.{of_part, line_for, line_of, lines_after, lines_of, members_after}
@@ -23,21 +17,10 @@ use Rattle.demangle_printing.specs.Rules.{members_of, args_of, leaf_name_of, lea
 use Rattle.demangle_printing.specs.Rules.{inside_node, inside_of, inner_of, turn_from, turns, emptied, is_rvalue}
 use Rattle.demangle_printing.specs.Rules.{is_lvalue, pop_if, rvalue_from, rvalues, is_lvalue_top, unless, joined}
 use Rattle.demangle_printing.specs.Rules as holding
-use Rattle.demangle_printing.specs.Parameters.{Wanted, or_spaced, wants, wanted, space_unless, opening, closing}
-use Rattle.demangle_printing.specs.Parameters.{any_set, is_kept_node, is_kept, is_void, explicit_object}
-use Rattle.demangle_printing.specs.Parameters.{parameters_end, parameters_in, parameters_act}
-use Rattle.demangle_printing.specs.Parameters as want
-use Rattle.demangle_printing.specs.Arrays.{Turn, qualified_turn, is_array, is_array_tree, turn_node, before_bounds}
-use Rattle.demangle_printing.specs.Arrays.{array_turn, array_from, array_turns, around_array}
-use Rattle.demangle_printing.specs.Arrays as turn
-use Rattle.demangle_printing.specs.Reader.{bytes_seen, is_present, text_if, input_text, spelled_act, texts, chosen}
-use Rattle.demangle_printing.specs.Reader.{operand_in, blocks, spaced_if, says, is_special_tree, holds, is_external}
-use Rattle.demangle_printing.specs.Reader.{is_bare_node, is_bare, held_for, need_leaf, found_leaf, place_of, run}
-use Rattle.demangle_printing.specs.Lines.{line_steps, inside_steps}
-use Rattle.demangle_printing.specs.Print.{steps_for, steps_inside, source_or, body, entered, left_to, print}
-use Rattle.demangle_printing.specs.Laws.{is_param}
-use Rattle.demangle_printing.proofs.Alike.{OptionR, ListR, SeenR, MeantR, ScopeR, HeldR, StateR, AnswerR, JobR, ActR}
-use Rattle.demangle_printing.proofs.Alike.{bind_alike, act_alike, length_alike}
+use Rattle.demangle_printing.specs.Parameters.{any_set}
+use Rattle.demangle_printing.specs.Reader.{bytes_seen}
+use Rattle.demangle_printing.specs.Reader.{need_leaf, found_leaf}
+use Rattle.demangle_printing.proofs.Alike.{OptionR, ListR, SeenR, MeantR, ScopeR, ActR}
 
 -- ---- a tree without its parts
 pub bare : {Z : Type 0} → Seen Z → Seen (Unit {0})

@@ -1,36 +1,20 @@
 -- A tree with its table and its input looks like its expanded tree.
-use Rattle.std.specs.Prelude.{◌≡◌, ℕ, zero, suc, ◌+◌, ◌-◌, ◌≤◌, ◌<◌, Bool, true, false, ◌||◌, List, [], ◌∷◌, ◌++◌}
-use Rattle.std.specs.Prelude.{length, Option, Some, None, is_some, slice_get}
-use Rattle.std.proofs.Common.{refl, ap, ◌∙◌, sym, subst, append-nil, arith}
+use Rattle.std.specs.Prelude.{◌≡◌, ℕ, zero, suc, ◌+◌, ◌≤◌, ◌<◌, Bool, true, false, ◌||◌, List, [], ◌∷◌, ◌++◌}
+use Rattle.std.specs.Prelude.{length, Option, Some, None, slice_get}
+use Rattle.std.proofs.Common.{refl, ap, ◌∙◌, sym, subst, arith}
 use Rattle.demangle_core.specs.Core.{Tag, Core, end, node, place, number, flag, chosen, ref, mark, Which, N, U}
 use Rattle.demangle_core.specs.Core.{same_which}
 use Rattle.demangle_core.specs.Table.{Entry, Table, count, count_if, listed, more_if, size, entry_at}
 use Rattle.demangle_core.specs.Sound.{RefersTo, ReferBack}
-use Rattle.demangle_core.specs.Lookups.{Next, answer, nothing, at, through, first_step, leaf_word, leaf_node}
-use Rattle.demangle_core.specs.Lookups.{args_node, Sort, args_component, special_node, steps_of, no_word, leaf_step}
-use Rattle.demangle_core.specs.Lookups.{args_step, component_args, special_step, step_from, answer_of, resolve}
-use Rattle.demangle_core.specs.Lookups.{leaf_name, template_args, is_special}
 use Rattle.demangle_grammar.specs.Sound.{is_substitutable, handle_of, HasHandles, IsComponent, EachEntry}
 use Rattle.demangle_grammar.specs.Expand.{Expanded, in_place, expand_with, expand_upto, expand}
 use Rattle.demangle_grammar.specs.Expand as expanded
 use Rattle.demangle_core.proofs.Earlier.{Earlier, earlier}
-use Rattle.demangle_printing.specs.World.{Seen}
-use Rattle.demangle_printing.specs.World as seen
-use Rattle.demangle_printing.specs.Trees.{trees_of, may_refer, look_component, look_in, with_table, expanded_of}
-use Rattle.demangle_printing.specs.Trees.{look_expanded, node_step, expanded_steps, look_up, without_table}
-use Rattle.demangle_printing.specs.Trees as tree
-use Rattle.demangle_printing.specs.State.{Event, Fault, Answer, yes, no}
-use Rattle.demangle_printing.specs.Act.{line}
-use Rattle.demangle_printing.specs.Outcome.{first_state, printed, text_of, Outcome, Shown, NotPrinted, outcome_of}
-use Rattle.demangle_printing.specs.Laws.{is_param, holds_param, told}
-use Rattle.demangle_printing.specs.Laws.{SharingIsInvisible, EqualPrintsEqual}
-use Rattle.demangle_printing.proofs.Alike.{OptionR, ListR, SeenR, AnswerR}
-use Rattle.demangle_printing.proofs.AlikeParts.{Worlds}
-use Rattle.demangle_printing.proofs.AlikeLines.{left_false, right_false, print_alike}
-use Rattle.demangle_printing.proofs.Nexts.{Pair, firsts, seconds, NextR, AllNext, first_alike, leaf_node_alike}
-use Rattle.demangle_printing.proofs.Nexts.{args_node_alike, special_node_alike, leaf_word_alike, args_component_alike}
-use Rattle.demangle_printing.proofs.Nexts.{leaf_component_alike, special_component_alike, leaf_of_handle}
-use Rattle.demangle_printing.proofs.Nexts.{args_of_handle, special_of_handle}
+use Rattle.demangle_printing.specs.Trees.{trees_of, may_refer, look_component, look_in, expanded_of}
+use Rattle.demangle_printing.specs.Trees.{look_expanded}
+use Rattle.demangle_printing.specs.Laws.{is_param, holds_param}
+use Rattle.demangle_printing.proofs.Alike.{ListR, SeenR}
+use Rattle.demangle_printing.proofs.AlikeLines.{left_false, right_false}
 
 -- ---- how many entries there are
 pub count_step : (v : Which) (es : List Entry) → count N es + count U es ≡ length es

@@ -1,5 +1,5 @@
 -- One step of a look-up in a tree with its table, and in its expanded tree.
-use Rattle.std.specs.Prelude.{◌≡◌, ℕ, zero, suc, true, List, [], ◌∷◌, Option, Some, None}
+use Rattle.std.specs.Prelude.{◌≡◌, ℕ, zero, suc, true, List, [], ◌∷◌, Option}
 use Rattle.std.proofs.Common.{refl, sym, true≢false}
 use Rattle.demangle_core.specs.Core.{Tag, Core, Which}
 use Rattle.demangle_core.specs.Lookups.{Next, answer, nothing, at, through, else_next, first_step, leaf_word}

@@ -1,5 +1,5 @@
 -- What the line of a type writes, by what stands left and right: builtin types, classes, const.
-use Rattle.std.specs.Prelude.{◌≡◌, ℕ, ◌-◌, Bool, true, false, not, ◌&&◌, ◌||◌, ◌==◌, cond, List, [], ◌∷◌, ◌++◌}
+use Rattle.std.specs.Prelude.{◌≡◌, ℕ, Bool, true, false, not, ◌&&◌, ◌||◌, ◌==◌, List, [], ◌∷◌, ◌++◌}
 use Rattle.std.specs.Prelude.{Option, Some, None, if◌then◌else◌, codes}
 use Rattle.std.specs.Str.{is_utf8}
 use Rattle.std.proofs.Common.{refl, ap, ◌∙◌, sym, subst, append-nil, append_assoc, true≢false}
@@ -8,7 +8,7 @@ use Rattle.demangle_core.specs.Core.{Tag}
 use Rattle.demangle_vocab.specs.WordTable.{text_at}
 use Rattle.demangle_vocab.specs.Builtins.{builtins}
 use Rattle.demangle_printing.specs.World.{World, node, nth, parts_seen, find, see}
-use Rattle.demangle_printing.specs.State.{Held, State, Answer, yes, no, bind, last_of, is_byte, spaced, rest, popped}
+use Rattle.demangle_printing.specs.State.{Held, State, Answer, bind, last_of, is_byte, rest, popped}
 use Rattle.demangle_printing.specs.State.{pushed, is_own, is_own_item}
 use Rattle.demangle_printing.specs.Scope.{Scope}
 use Rattle.demangle_printing.specs.Act.{line, inside, Act, done, space, call, block, ask, held, owned, act}
@@ -19,21 +19,18 @@ use Rattle.demangle_printing.specs.Reader.{run, chosen, is_present}
 use Rattle.demangle_printing.specs.Lines.{line_steps}
 use Rattle.demangle_printing.specs.Print.{steps_for, body, entered, print}
 use Rattle.demangle_printing.specs.Declarators.{Mark, pointer, lvalue, rvalue, Plain, builtin, class, const, to}
-use Rattle.demangle_printing.specs.Declarators.{function, Plains, none, more, is_plain_end, class_text, is_function}
-use Rattle.demangle_printing.specs.Declarators.{is_reference, may_be_reference, is_type, are_types, mark_text}
+use Rattle.demangle_printing.specs.Declarators.{function, is_plain_end, class_text, is_function}
+use Rattle.demangle_printing.specs.Declarators.{may_be_reference, is_type, mark_text}
 use Rattle.demangle_printing.specs.Declarators.{mark_tag, Sides, behind_left, around_function, sides, is_open}
-use Rattle.demangle_printing.specs.Declarators.{declared, Is, Are, Adds, PrintsDeclared, IsDeclaredOrLimited}
-use Rattle.demangle_printing.specs.Declarators.{ShowsDeclared}
-use Rattle.demangle_printing.specs.Outcome.{first_state, printed, outcome_of}
+use Rattle.demangle_printing.specs.Declarators.{Is}
 use Rattle.demangle_printing.proofs.Tidy.{left_true, right_true}
-use Rattle.demangle_printing.proofs.Writes.{To, Writes, writes_then, writes_as, writes_done, writes_space, space_text}
+use Rattle.demangle_printing.proofs.Writes.{To, Writes, writes_then, writes_as, writes_done}
 use Rattle.demangle_printing.proofs.Writes.{writes_job, writes_from, last_then}
-use Rattle.demangle_printing.proofs.Bases.{part_itself, ending, part_body, builtin_adds, class_adds}
-use Rattle.demangle_printing.proofs.Around.{Around, top, in_const, in_mark, in_result, is_top, tops_reference, Starts}
-use Rattle.demangle_printing.proofs.Around.{open_text, parens, wrap, drain, IsFunction, Stack, PrintsAlone, AllPrint}
+use Rattle.demangle_printing.proofs.Bases.{part_itself, ending, builtin_adds, class_adds}
+use Rattle.demangle_printing.proofs.Around.{Around, in_const, is_top, tops_reference, Starts}
+use Rattle.demangle_printing.proofs.Around.{wrap, drain, IsFunction, Stack}
 use Rattle.demangle_printing.proofs.Around.{Good, tag_of, part_of}
-use Rattle.demangle_printing.proofs.Taken.{call_writes, ending_writes, mark_writes, const_writes}
-use Rattle.demangle_printing.proofs.Drained.{drains, bare_writes}
+use Rattle.demangle_printing.proofs.Taken.{call_writes, ending_writes, const_writes}
 
 -- ---- the last byte of what stands left
 pub plain_last : (bs : List ℕ) → is_plain_end (last_of None bs) ≡ true → (l : Option ℕ) →

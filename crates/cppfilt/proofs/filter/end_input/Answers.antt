@@ -1,6 +1,0 @@
-use Rattle.cppfilt.proofs.RunLaws.{finished-refused}
-use Rattle.cppfilt.proofs.filter.end_input.Goals as goal
-
-pub returns-in-Err : goal.returns-in-Err
-returns-in-Err g c =
-    rw c.status_of.ensures (finished-refused c.in-Err.fault _ _ _ _ _ c.in-Err.ensures.cause c.in-Err.ensures.front)

@@ -1,9 +1,0 @@
--- The status of a sink's refusal.
-use Rattle.cpp_demangle.specs.declared.error.SinkFault.{SinkFault}
-use Rattle.cpp_demangle.specs.declared.error.SinkFault.TheVariants as fault
-use Rattle.cppfilt.specs.declared.status.Status.{Status}
-use Rattle.cppfilt.specs.declared.status.Status.TheVariants.{WriteFault, OutOfMemory}
-
-abbrev pub refusal_status : SinkFault → Status
-refusal_status fault.Failed = WriteFault
-refusal_status fault.OutOfMemory = OutOfMemory

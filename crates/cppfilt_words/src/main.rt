@@ -1,0 +1,1 @@
+../../cppfilt/src/main.rt
