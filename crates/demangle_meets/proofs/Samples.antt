@@ -24,7 +24,8 @@ use Rattle.demangle_meets.specs.Place.{Place, IsDeeper, world_of}
 use Rattle.demangle_meets.specs.Calls.{Steps, Pushes, PopsOwn, KeepsTop, Returns, SetsAside, BringsBack, Begins}
 use Rattle.demangle_meets.specs.Calls.{Ends}
 use Rattle.demangle_meets.specs.Meets.{Meets, Prints, Inner, Closes, Sifts}
-use Rattle.demangle_meets.proofs.Acts.{meets_done, meets_text, meets_space, meets_set, meets_choose_on, meets_choose_off}
+use Rattle.demangle_meets.proofs.Acts.{meets_done, meets_text, meets_space, meets_set, meets_choose_on}
+use Rattle.demangle_meets.proofs.Acts.{meets_choose_off}
 use Rattle.demangle_meets.proofs.Acts.{meets_block, meets_ask, closes_own}
 use Rattle.demangle_meets.proofs.Around.{meets_held, meets_fence}
 use Rattle.demangle_meets.proofs.Events.{meets_event}
