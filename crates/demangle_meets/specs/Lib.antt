@@ -1,0 +1,6 @@
+pub mod Page
+pub mod Goes
+pub mod Place
+pub mod Calls
+pub mod Meets
+pub mod Laws

@@ -1,0 +1,42 @@
+-- What contracts see of a context of printing: the state without its level, which lines hold by value; the items that
+-- are set aside; what the listener was told, and its counts; and the first trouble.
+use Rattle.std.specs.Prelude.{ℕ, List, Option}
+use Rattle.demangle_core.specs.Core.{Core}
+use Rattle.demangle_printing.specs.State.{Event, Fault, Held, Flags, State}
+
+-- What is lost where it has nothing to do with the name: the listener failed; it had no memory; a stack of items had
+-- no room.
+pub data Loss : Type 0 where
+  failed refused full : Loss
+
+-- Why printing stopped.
+pub data Trouble : Type 0 where
+  fault : Fault → Trouble
+  lost : Loss → Trouble
+
+-- Items stand newest first; those that are set aside last are the first of `aside`.
+pub record Page : Type 0 where
+  pub inner : List (Held Core)
+  pub kept : List (Held Core)
+  pub aside : List (Held Core)
+  pub last : Option ℕ
+  pub source : Option (List ℕ)
+  pub flags : Flags
+  pub room : Option ℕ
+  pub told : List Event
+  pub faults : ℕ  -- how often the listener failed
+  pub refusals : ℕ  -- how often it had no memory
+  pub trouble : Option Trouble
+
+-- The state at a level.
+abbrev pub at : ℕ → Page → State Core
+at l a =
+    record {
+      inner = a.inner;
+      kept = a.kept;
+      last = a.last;
+      source = a.source;
+      level = l;
+      flags = a.flags;
+      room = a.room;
+    }
