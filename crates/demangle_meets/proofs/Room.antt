@@ -51,7 +51,7 @@ all_under : (n : ℕ) (hs : List (Held Core)) → ((v : ℕ) → n ≤ v → at_
 all_under n [] e = omega arith
 all_under n (h ∷ hs) e =
     let a =
-      all_under n hs (λ v g. let x = e v g in let y = no_less (h.level == v) (at_level v hs) in omega (arith, x, y)) in
+    all_under n hs (λ v g. let x = e v g in let y = no_less (h.level == v) (at_level v hs) in omega (arith, x, y)) in
     let b = under_item n h hs (below (nat_lt h.level n) refl) in
     omega (arith, a, b)
   where
