@@ -15,7 +15,6 @@ printings-by-hand.jsonl notice every edit that any printing notices, each of the
 tells which edits these files notice, and which others a printing does; there are to be none. The rules of printing that
 are no lines (parameters, arrays, joining, scopes) aren't edited: printing.py has them by hand.
 """
-import argparse
 import json
 import sys
 
@@ -27,13 +26,7 @@ ENOUGH = 4  # how many printings that notice an edit are looked for; a printing 
 
 
 def main():
-    parser = argparse.ArgumentParser(description=__doc__.split("\n")[0])
-    parser.add_argument("action", choices=("choose", "check"))
-    parser.add_argument("outcomes")
-    parser.add_argument("events")
-    parser.add_argument("--processes", type=int, default=2)
-    parser.add_argument("--report", type=argparse.FileType("w"))
-    given = parser.parse_args()
+    given = edits.arguments(__doc__, "outcomes", "events")
     subject = Printings(given.outcomes, given.events)
     print(len(subject.edits), "edits,", len(subject.given), "printings", flush=True)
     for line in subject.wrong:

@@ -71,14 +71,19 @@ def run(subject, search, action, report):
     return check(noticing(subject, search, first), subject, report)
 
 
-def main():
-    parser = argparse.ArgumentParser(description=__doc__.split("\n")[0])
+def arguments(summary, *files):
+    """The words of the command line: what to do, these files of expected answers, and the options."""
+    parser = argparse.ArgumentParser(description=summary.split("\n")[0])
     parser.add_argument("action", choices=("choose", "check"))
-    parser.add_argument("readings")
-    parser.add_argument("names")
+    for name in files:
+        parser.add_argument(name)
     parser.add_argument("--processes", type=int, default=2)
     parser.add_argument("--report", type=argparse.FileType("w"))
-    given = parser.parse_args()
+    return parser.parse_args()
+
+
+def main():
+    given = arguments(__doc__, "readings", "names")
     subject = RowReadings(given.readings, given.names)
     print(len(subject.edits), "edits,", len(subject.inputs), "inputs", flush=True)
     for line in subject.wrong:
