@@ -4,7 +4,7 @@
     tools/write_printings.py
 
 From printings-by-hand.jsonl, printings.jsonl.xz and events.jsonl.xz in tools/readings (printings.py) it makes the modules
-Prints1, Tells1, Expanded1 and so on, Declares and ByHand in crates/demangle_printing/proofs, and names them in
+Prints1, Tells1, Expanded1, ByHand1 and so on, and Declares in crates/demangle_printing/proofs, and names them in
 Lib.antt there. The trees that no name has are written out here, and plain types are made by chance, always the same.
 """
 import os
@@ -37,7 +37,8 @@ UNFOLDED = {
     "Rattle.demangle_vocab.specs.WordTable": ["word_read", "table_from"],
     "Rattle.demangle_grammar.specs.Rows": ["rule"],
     "Rattle.demangle_grammar.specs.Code": [
-        "eat_at", "taken_over", "many", "all_of", "rows_of", "turns", "turns_of", "taken_word", "cread"],
+        "eat_at", "taken_over", "many", "all_of", "rows_of", "turns", "turns_of", "optional_at", "rows_at", "all_at",
+        "some_at", "trial_part", "taken_word", "cread"],
     "Rattle.demangle_grammar.specs.Expand": ["expand"],
     "Rattle.demangle_printing.specs.State": ["written"],
     "Rattle.demangle_printing.specs.Scope": ["scope_leaf", "scope_argument"],
@@ -228,8 +229,9 @@ def main():
     stems += write_all("Tells", "Events of whole names, by computation.",
                        [events_of(line) for line in printings.lines_of(printings.EVENTS)])
     stems += write_all("Expanded", "Printings of expanded names, by computation.", expanded[::3])
-    stems += [write("ByHand", "Printings that were written out by hand.", by_hand),
-              write("Declares", "Plain types that print as they are declared, by computation.", plain_types(60), "(refl, refl)")]
+    stems += write_all("ByHand", "Printings that were written out by hand.", by_hand)
+    stems += [write("Declares", "Plain types that print as they are declared, by computation.", plain_types(60),
+                    "(refl, refl)")]
     library = os.path.join(FOLDER, "Lib.antt")
     with open(library) as file:
         modules = [line for line in file.read().split("\n") if line and not re.fullmatch(r"mod (Prints|Tells|Expanded|Declares|ByHand)\d*", line)]

@@ -14,14 +14,15 @@ use Rattle.demangle_text.proofs.Runs.{run_inside}
 use Rattle.demangle_text.specs.Word.{starts, missing_word, word_at}
 use Rattle.demangle_text.specs.Number.{natural_at, number_at, natural_from, number_from}
 use Rattle.demangle_vocab.specs.WordTable.{table_at, word_read, table_from}
-use Rattle.demangle_grammar.specs.Rule.{Given, Class, Row, Eat, Leaf, Rule}
+use Rattle.demangle_grammar.specs.Rule.{Class, Row, Eat, Leaf, Rule}
 use Rattle.demangle_grammar.specs.Tree.{cores, How, shape, component_of, template_entry, taken_of, reference}
 use Rattle.demangle_grammar.specs.Rows.{rule}
 use Rattle.demangle_grammar.specs.Reading.{State, Answer, Yes, No, Deep, find, numbered, worded, given, holds, refusal, marks, step, where_so, found, next_do, or_else, ended, many, turned, turn, turns, whole, sized, tried, trial_of, run_rule, read_from, answer, go_on, hard, soft, kept, prefix_entry, is_nestable, is_empty, next_is, ahead_by, widened, is_in, run_found}
-use Rattle.demangle_grammar.specs.Code.{joined, joined_to, Here, at, Reply, Out, close, committed, from_row, read_spot, read_leaf, read_core, and_then, and_again, eat_at, taken_over, eaten, cstep, all_of, Go, rows_of, starred, turns_of, inside, trial_at, flag_of, taken_if, taken_word, choice, go_after, crun, cread}
+use Rattle.demangle_grammar.specs.Code.{joined, joined_to, Here, at, Reply, Out, close, committed, from_row, read_spot, read_leaf, read_core, and_then, and_again, eat_at, taken_over, eaten, cstep, all_of, Go, starred, turns_of, inside, trial_at, flag_of, choice, go_after, crun, cread}
 use Rattle.demangle_grammar.specs.Code as code
 use Rattle.demangle_grammar.specs.Seen.{seen, replied}
 use Rattle.demangle_grammar.specs.Laws.{ReadsCode}
+use Rattle.demangle_grammar.proofs.CodeParts.{starred_is, after_is, choice_is, or_optional, part_or_list, trial_is}
 use Rattle.demangle_grammar.proofs.Numbers.{NaturalAt, natural_fits, NumberAt, number_fits, WordAt, word_fits, starts_so}
 
 -- ---- rows of fields
@@ -261,29 +262,6 @@ unfolding code.turns
 turns_sees go go' h zero s acc = SeesRow.found' s (joined acc)
 turns_sees go go' h (suc n) s acc = turn_sees s (turns cores answer go_on go n) (code.turns go' n) (h s acc) (turns_sees go go' h n)
 
-starred_is : (go : Go) (c : Bool) (x : Rule) (s : Here) (acc : List Core) → all_of (λ m b. crun go c x m b) s acc ≡ starred go c x (λ m b. crun go c x m b) s acc
-unfolding rows_of
-starred_is go c (Rule.call false r Rule.done) s acc = refl
-starred_is go c _ s acc = refl
-
-after_is : (go : Go) (c : Bool) (k : Rule) (o : Out) → and_then o (λ m b. crun go c k m b) ≡ go_after k o (λ m b. crun go c k m b)
-after_is go c Rule.done (code.Yes s acc) = refl
-after_is go c Rule.done (code.No h k) = refl
-after_is go c _ o = refl
-
-taken_is : (w : List ℕ) (s : Here) (acc : List Core) → code.or_else (read_spot (word_at w s.spot) (λ p. code.Yes (at s p) (acc ++ flag true end ∷ []))) (λ u. code.Yes s (acc ++ flag false end ∷ [])) ≡ code.Yes (at s (taken_word w s.spot).1) (acc ++ flag (taken_word w s.spot).0 end ∷ [])
-unfolding word_at taken_word
-taken_is w s acc = by (starts w s.spot.left)
-  where
-    by : (b : Bool) → code.or_else (read_spot (if b then Ok (skip (length w) s.spot) else Err (Unread (missing_word w s.spot.left))) (λ p. code.Yes (at s p) (acc ++ flag true end ∷ []))) (λ u. code.Yes s (acc ++ flag false end ∷ []))
-        ≡ code.Yes (at s (taken_if b (length w) s.spot).1) (acc ++ flag (taken_if b (length w) s.spot).0 end ∷ [])
-    by true = refl
-    by false = refl
-
-choice_is : (go : Go) (c : Bool) (x y : Rule) (s : Here) (acc : List Core) → code.or_else (crun go c x s acc) (λ u. crun go c y s acc) ≡ choice (flag_of x y) s acc (λ u. code.or_else (crun go c x s acc) (λ u. crun go c y s acc))
-choice_is go c (Rule.leaf (Leaf.word w) (Rule.leaf (Leaf.eat (Eat.give Given.set)) Rule.done)) (Rule.leaf (Leaf.eat (Eat.give Given.unset)) Rule.done) s acc = taken_is w s acc
-choice_is go c _ _ s acc = refl
-
 -- ---- just so many bytes
 whole_sees : {x : Answer Core} {y : Out} → (p : Spot) (go : State → Core → Answer Core) (go' : Here → Core → Out) → Sees x y → Next go go' → Sees (whole cores answer go_on p.left go x) (code.whole p y go')
 whole_sees p go go' (Sees.yes s acc) h = where_sees (is_empty s.rest) Text (λ u. go (widened p.left s) (joined acc)) (go' (seen (widened p.left s)) (joined acc)) (h (widened p.left s) (joined acc))
@@ -358,7 +336,8 @@ module _ (read : Row → Bool → State → Core → Answer Core) (go : Go) (row
       (many_sees (run_rule cores answer go_on read c x) (λ m b. crun go c x m b) (rule_sees c x) (suc (length s.rest)) s acc) (rule_sees c k))
   rule_sees c (Rule.alt x y k) s acc =
       subst (Sees (next_do cores answer go_on (run_rule cores answer go_on read c k) (or_else cores answer go_on (λ Kind. run_rule cores answer go_on read c y s (joined acc)) (run_rule cores answer go_on read c x s (joined acc)))))
-      (ap (λ o. and_then o (λ m b. crun go c k m b)) (choice_is go c x y (seen s) acc) ∙ after_is go c k _)
+      (or_optional go c x y (seen s) acc (λ m b. crun go c k m b) _
+      (ap (λ o. and_then o (λ m b. crun go c k m b)) (choice_is go c x y (seen s) acc) ∙ after_is go c k _))
       (then_sees (run_rule cores answer go_on read c k) (λ m b. crun go c k m b)
       (or_sees (λ Kind. run_rule cores answer go_on read c y s (joined acc)) (λ u. crun go c y (seen s) acc) (rule_sees c x s acc) (λ Kind. rule_sees c y s acc)) (rule_sees c k))
   rule_sees c (Rule.commit k) s acc = hard_sees (rule_sees c k s acc)
@@ -366,10 +345,14 @@ module _ (read : Row → Bool → State → Core → Answer Core) (go : Go) (row
       block_sees (natural_at 10 s.rest) s (run_rule cores answer go_on read c x) (λ n m b. run_rule cores answer go_on read c k m ((joined acc ⊕ end) ⊕ b)) (λ m b. crun go c x m b) (λ m b. crun go c k m (acc ++ b ∷ []))
       (natural_within 10 s.rest) (rule_sees c x) (λ n. behind_sees acc (run_rule cores answer go_on read c k) (λ m b. crun go c k m b) (rule_sees c k))
   rule_sees c (Rule.part h x k) s acc =
-      then_sees (λ m b. run_rule cores answer go_on read c k m (joined acc ⊕ shape (How.shaped h) b)) (λ m b. crun go c k m (acc ++ shape (How.shaped h) (joined b) ∷ [])) (rule_sees c x s [])
-      (λ m b. next_sees acc (run_rule cores answer go_on read c k) (λ m b. crun go c k m b) (rule_sees c k) m (shape (How.shaped h) (joined b)))
+      subst (Sees (next_do cores answer go_on (λ m b. run_rule cores answer go_on read c k m (joined acc ⊕ shape (How.shaped h) b)) (run_rule cores answer go_on read c x s end)))
+      (part_or_list go c h x (seen s) acc (λ m b. crun go c k m b))
+      (then_sees (λ m b. run_rule cores answer go_on read c k m (joined acc ⊕ shape (How.shaped h) b)) (λ m b. crun go c k m (acc ++ shape (How.shaped h) (joined b) ∷ [])) (rule_sees c x s [])
+      (λ m b. next_sees acc (run_rule cores answer go_on read c k) (λ m b. crun go c k m b) (rule_sees c k) m (shape (How.shaped h) (joined b))))
   rule_sees c (Rule.trial r k) s acc =
-      trial_sees (next_is (Class.these (codes "I")) s.rest) c (λ u. run_rule cores answer go_on read c k s (joined acc)) (λ u. crun go c k (seen s) acc) (rows r c s []) (rule_sees c k s acc)
+      subst (Sees (trial_of cores answer go_on (next_is (Class.these (codes "I")) s.rest) c (λ u. read r c s end) (λ u. run_rule cores answer go_on read c k s (joined acc))))
+      (trial_is go c r (seen s) (crun go c k (seen s) acc))
+      (trial_sees (next_is (Class.these (codes "I")) s.rest) c (λ u. run_rule cores answer go_on read c k s (joined acc)) (λ u. crun go c k (seen s) acc) (rows r c s []) (rule_sees c k s acc))
 
 row_read : (left : ℕ) (r : Row) (c : Bool) → SameRow (read_from cores left r c) (cread left r c)
 unfolding read_from cread

@@ -8,6 +8,7 @@ pub mod Kept
 pub mod Derived
 pub mod Readings
 pub mod Cores
+pub mod CodeParts
 pub mod Bridge
 pub mod CodeLaws
 pub mod Cut

@@ -2,14 +2,14 @@
 -- all reading.
 use Rattle.std.specs.Prelude.{ℕ, zero, suc, Bool, true, false, List, [], ◌∷◌, ◌++◌, length, take, nat_lt, nat_eq, ◌==◌}
 use Rattle.std.specs.Prelude.{◌||◌, if◌then◌else◌, pos, codes, Result, Ok, Err, Option, Some, None}
-use Rattle.demangle_core.specs.Core.{Core, end, number, flag, chosen, mark, ◌⊕◌, Which, N, U}
+use Rattle.demangle_core.specs.Core.{Core, Tag, end, node, number, flag, chosen, mark, ◌⊕◌, Which, N, U}
 use Rattle.demangle_text.specs.Kind.{Kind, End, Text, Bad, Unread, Deep, ends}
 use Rattle.demangle_text.specs.Spot.{Spot, skip}
 use Rattle.demangle_text.specs.Found.{and_rest}
 use Rattle.demangle_text.specs.Word.{starts, word_at}
 use Rattle.demangle_text.specs.Number.{number_from, natural_from}
 use Rattle.demangle_core.specs.Table.{Table, added, size}
-use Rattle.demangle_grammar.specs.Rule.{Given, Class, Row, Eat, Leaf, Rule}
+use Rattle.demangle_grammar.specs.Rule.{Given, Make, Class, Row, Eat, Leaf, Rule}
 use Rattle.demangle_grammar.specs.Tree.{How, shape, component_of, template_entry, taken_of, reference}
 use Rattle.demangle_grammar.specs.Rows.{rule}
 use Rattle.demangle_vocab.specs.WordTable.{table_from}
@@ -191,6 +191,29 @@ trial_at false c x f = f tt
 trial_at true false x f = No false (Unread Text)
 trial_at true true x f = tried x f
 
+-- ---- parts that are read by one word each
+-- a row that may be missing
+unfoldable pub optional_at : Go → Bool → Row → Here → Out
+optional_at go c r s =
+    or_else (from_row (go r c s []) (λ m t. Yes m (node Tag.Present t end ∷ [])))
+    (λ u. Yes s (node Tag.Absent end end ∷ []))
+
+-- a row as often as it can be read, behind those that were read: all as one part
+unfoldable pub rows_at : Go → Bool → Row → Here → List Core → Out
+rows_at go c r s acc = and_then (rows_of go c r s acc) (λ m b. Yes m (node Tag.Several (joined b) end ∷ []))
+
+-- the same with none before
+unfoldable pub all_at : Go → Bool → Row → Here → Out
+all_at go c r s = rows_at go c r s []
+
+-- a row, and then one as often as it can be read
+unfoldable pub some_at : Go → Bool → Row → Row → Here → Out
+some_at go c r q s = from_row (go r c s []) (λ m t. rows_at go c q m (t ∷ []))
+
+-- the trial: no part, where what stands here may be read alone
+unfoldable pub trial_part : Go → Bool → Row → Here → Out
+trial_part go c r s = trial_at (next_is (Class.these (codes "I")) s.spot.left) c (go r c s []) (λ u. Yes s [])
+
 -- ---- what is computed of the rule before it is read
 -- an optional word with its flag
 abbrev pub flag_of : Rule → Rule → Option (List ℕ)
@@ -215,6 +238,35 @@ abbrev pub go_after : Rule → Out → (Here → List Core → Out) → Out
 go_after Rule.done o f = o
 go_after _ o f = and_then o f
 
+-- an optional row
+abbrev pub optional_row : Rule → Rule → Option Row
+optional_row
+    (Rule.part (Make.one Tag.Present) (Rule.call false r Rule.done) Rule.done)
+    (Rule.leaf (Leaf.eat (Eat.give Given.missing)) Rule.done) = Some r
+optional_row _ _ = None
+
+abbrev pub unless_optional : Go → Bool → Option Row → Here → List Core → (Here → List Core → Out)
+    → (Unit {0} → Out) → Out
+unless_optional go c (Some r) s acc f o = and_then (optional_at go c r s) (λ m b. f m (acc ++ b))
+unless_optional go c None s acc f o = o tt
+
+-- a list of rows
+pub data Listing : Type 0 where
+  all : Row → Listing
+  some : Row → Row → Listing
+  other : Listing
+
+abbrev pub listing : Make → Rule → Listing
+listing (Make.one Tag.Several) (Rule.star (Rule.call false r Rule.done) Rule.done) = Listing.all r
+listing (Make.one Tag.Several) (Rule.call false r (Rule.star (Rule.call false q Rule.done) Rule.done)) =
+    Listing.some r q
+listing _ _ = Listing.other
+
+abbrev pub unless_list : Go → Bool → Listing → Here → List Core → (Here → List Core → Out) → (Unit {0} → Out) → Out
+unless_list go c (Listing.all r) s acc f o = and_then (all_at go c r s) (λ m b. f m (acc ++ b))
+unless_list go c (Listing.some r q) s acc f o = and_then (some_at go c r q s) (λ m b. f m (acc ++ b))
+unless_list go c Listing.other s acc f o = o tt
+
 -- ---- the reader
 abbrev pub crun : Go → Bool → Rule → Here → List Core → Out
 crun go c Rule.done s acc = Yes s acc
@@ -223,16 +275,17 @@ crun go c (Rule.call on r k) s acc = from_row (go r (on || c) s []) (λ m t. cru
 crun go c (Rule.loop r k) s acc = from_row (turns_of go c r s acc) (λ m t. crun go c k m (t ∷ []))
 crun go c (Rule.star x k) s acc = go_after k (starred go c x (λ m b. crun go c x m b) s acc) (λ m b. crun go c k m b)
 crun go c (Rule.alt x y k) s acc =
+    unless_optional go c (optional_row x y) s acc (λ m b. crun go c k m b) (λ u.
     go_after k (choice (flag_of x y) s acc (λ u. or_else (crun go c x s acc) (λ u. crun go c y s acc)))
-    (λ m b. crun go c k m b)
+    (λ m b. crun go c k m b))
 crun go c (Rule.commit k) s acc = committed (crun go c k s acc)
 crun go c (Rule.block x k) s acc =
     read_leaf (natural_from 10 s.spot)
     (λ v p. inside v p s (λ m b. crun go c x m b) (λ m b. crun go c k m (acc ++ b ∷ [])))
 crun go c (Rule.part h x k) s acc =
-    and_then (crun go c x s []) (λ m b. crun go c k m (acc ++ shape (How.shaped h) (joined b) ∷ []))
-crun go c (Rule.trial r k) s acc =
-    trial_at (next_is (Class.these (codes "I")) s.spot.left) c (go r c s []) (λ u. crun go c k s acc)
+    unless_list go c (listing h x) s acc (λ m b. crun go c k m b) (λ u.
+    and_then (crun go c x s []) (λ m b. crun go c k m (acc ++ shape (How.shaped h) (joined b) ∷ [])))
+crun go c (Rule.trial r k) s acc = and_then (trial_part go c r s) (λ m b. crun go c k s acc)
 
 -- with so many levels left, and the conversion flag
 unfoldable pub cread : ℕ → Row → Bool → Here → List Core → Reply

@@ -9,6 +9,7 @@ pub mod First
 pub mod Fits
 pub mod Sound
 pub mod Code
+pub mod Parts
 pub mod Seen
 pub mod Laws
 pub mod Expand

@@ -13,7 +13,7 @@ use Rattle.demangle_grammar.specs.Rule.{Row}
 use Rattle.demangle_grammar.specs.Rows.{rule}
 use Rattle.demangle_grammar.specs.First.{takes_in, takes_row}
 use Rattle.demangle_grammar.specs.Code.{joined, joined_to, Here, here, Reply, Found, Refused, Out, Yes, one_row}
-use Rattle.demangle_grammar.specs.Code.{from_row, rows_of, all_of, cread}
+use Rattle.demangle_grammar.specs.Code.{from_row, rows_of, all_of, rows_at, all_at, cread}
 use Rattle.demangle_grammar.proofs.CodeLaws.{byte_taken}
 use Rattle.demangle_leaf_rows.specs.Answers.{AnswersLeaf}
 use Rattle.demangle_leaf_rows.specs.Hidden.{IsHidden}
@@ -78,7 +78,7 @@ pub tags_stop : (levels : ℕ) (c : Bool) (p q : Spot) (xs : List AbiTag) (k : K
     → (table : Table)
     → cread (suc levels) Row.abi_tags c (here p table) []
     ≡ Found (node Tag.AbiTags (node Tag.Several (trees tag_of_abi_tag parts_of_abi_tag xs) end) end) (here q table)
-unfolding cread rule rows_of
+unfolding cread rule rows_of rows_at all_at
 tags_stop levels c p q xs k h read l table =
     let e : rows_of (cread levels) c Row.abi_tag (here q table) (map tree_of_abi_tag xs)
     ≡ Yes (here q table) (map tree_of_abi_tag xs) =
@@ -89,7 +89,7 @@ tags_stop levels c p q xs k h read l table =
 pub tags_break : (levels : ℕ) (c : Bool) (p q : Spot) (xs : List AbiTag) (k : Kind) → TagsSoFar levels c p q xs
     → ((table : Table) → cread levels Row.abi_tag c (here q table) [] ≡ Refused k) → ends k ≡ true
     → (table : Table) → cread (suc levels) Row.abi_tags c (here p table) [] ≡ Refused k
-unfolding cread rule rows_of
+unfolding cread rule rows_of rows_at all_at
 tags_break levels c p q xs k h read l table =
     let e = breaks (one_row (cread levels) c Row.abi_tag) (here q table) (map tree_of_abi_tag xs) (ends k) k
     (rw (read table) refl) l in

@@ -1,0 +1,3 @@
+pub mod TypeForms
+pub mod ArgForms
+pub mod NameForms
