@@ -228,7 +228,7 @@ def main():
     stems = write_all("Prints", "Printings of whole names, by computation.", [printing_of(line) for line in chosen])
     stems += write_all("Tells", "Events of whole names, by computation.",
                        [events_of(line) for line in printings.lines_of(printings.EVENTS)])
-    stems += write_all("Expanded", "Printings of expanded names, by computation.", expanded[::3])
+    stems += write_all("Expanded", "Printings of expanded names, by computation.", expanded)
     stems += write_all("ByHand", "Printings that were written out by hand.", by_hand)
     stems += [write("Declares", "Plain types that print as they are declared, by computation.", plain_types(60),
                     "(refl, refl)")]

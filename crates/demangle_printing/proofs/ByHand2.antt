@@ -116,26 +116,48 @@ unfolding is_utf8 chars encode_utf8 digits empty_table added size entry_at leaf_
     act line_steps inside_steps body print outcome
 byhand_13 = refl
 
-byhand_14 : PrintsTree (node Tag.OperatorNameCast (node Tag.TypeHandleBuiltin (node Tag.BuiltinTypeStandard (chosen 1
-    8 end) end) end) end) [] (Shown (codes " int"))
+byhand_14 : Prints 96 defaults (codes "_Z1fIiEDTv33addLi1ELi2ELi3EEv") (Shown (codes
+    "decltype (add::operator 3(1, 2, 3)) f<int>()"))
 unfolding is_utf8 chars encode_utf8 digits empty_table added size entry_at leaf_name template_args is_special word_at
     number_from natural_from sequence_len word_read table_from rule eat_at taken_over many all_of rows_of turns
     turns_of optional_at rows_at all_at some_at trial_part taken_word cread expand written scope_leaf scope_argument
     act line_steps inside_steps body print outcome
 byhand_14 = refl
 
-byhand_15 : PrintsTree (node Tag.QualifiedBuiltin (node Tag.CvQualifiers (flag true (flag true (flag true end))) (node
-    Tag.BuiltinTypeStandard (chosen 1 8 end) end)) end) [] (Shown (codes "int const volatile restrict"))
+byhand_15 : Prints 96 defaults (codes "_Z1fIiEDTsrNT_1b1cE1dEv") (Shown (codes "decltype (int::b::c::d) f<int>()"))
 unfolding is_utf8 chars encode_utf8 digits empty_table added size entry_at leaf_name template_args is_special word_at
     number_from natural_from sequence_len word_read table_from rule eat_at taken_over many all_of rows_of turns
     turns_of optional_at rows_at all_at some_at trial_part taken_word cread expand written scope_leaf scope_argument
     act line_steps inside_steps body print outcome
 byhand_15 = refl
 
-byhand_16 : PrintsTree (node Tag.DataMemberPrefix (node Tag.SourceName (node Tag.Identifier (place 0 1 end) end) end)
-    end) (codes "a") (Shown (codes "a"))
+byhand_16 : Prints 96 defaults (codes "_Z1fILdn4000EEvv") (Shown (codes "void f<(double)-[4000]>()"))
 unfolding is_utf8 chars encode_utf8 digits empty_table added size entry_at leaf_name template_args is_special word_at
     number_from natural_from sequence_len word_read table_from rule eat_at taken_over many all_of rows_of turns
     turns_of optional_at rows_at all_at some_at trial_part taken_word cread expand written scope_leaf scope_argument
     act line_steps inside_steps body print outcome
 byhand_16 = refl
+
+byhand_17 : PrintsTree (node Tag.OperatorNameCast (node Tag.TypeHandleBuiltin (node Tag.BuiltinTypeStandard (chosen 1
+    8 end) end) end) end) [] (Shown (codes " int"))
+unfolding is_utf8 chars encode_utf8 digits empty_table added size entry_at leaf_name template_args is_special word_at
+    number_from natural_from sequence_len word_read table_from rule eat_at taken_over many all_of rows_of turns
+    turns_of optional_at rows_at all_at some_at trial_part taken_word cread expand written scope_leaf scope_argument
+    act line_steps inside_steps body print outcome
+byhand_17 = refl
+
+byhand_18 : PrintsTree (node Tag.QualifiedBuiltin (node Tag.CvQualifiers (flag true (flag true (flag true end))) (node
+    Tag.BuiltinTypeStandard (chosen 1 8 end) end)) end) [] (Shown (codes "int const volatile restrict"))
+unfolding is_utf8 chars encode_utf8 digits empty_table added size entry_at leaf_name template_args is_special word_at
+    number_from natural_from sequence_len word_read table_from rule eat_at taken_over many all_of rows_of turns
+    turns_of optional_at rows_at all_at some_at trial_part taken_word cread expand written scope_leaf scope_argument
+    act line_steps inside_steps body print outcome
+byhand_18 = refl
+
+byhand_19 : PrintsTree (node Tag.DataMemberPrefix (node Tag.SourceName (node Tag.Identifier (place 0 1 end) end) end)
+    end) (codes "a") (Shown (codes "a"))
+unfolding is_utf8 chars encode_utf8 digits empty_table added size entry_at leaf_name template_args is_special word_at
+    number_from natural_from sequence_len word_read table_from rule eat_at taken_over many all_of rows_of turns
+    turns_of optional_at rows_at all_at some_at trial_part taken_word cread expand written scope_leaf scope_argument
+    act line_steps inside_steps body print outcome
+byhand_19 = refl
