@@ -1,0 +1,5 @@
+pub mod Stacks
+pub mod Hold
+pub mod Characters
+pub mod Heard
+pub mod Texts
