@@ -1,111 +1,49 @@
--- Lists in memory, of which the last is the newest, and the items that are seen of them.
+-- The items that are seen of the stacks, when these change.
 use Rattle.std.proofs.Common.{◌≡◌, ℕ, zero, suc, ◌+◌, ◌-◌, ◌<◌, ◌≤◌, ◌==◌, min, Bool, true, false, List, [], ◌∷◌, ◌++◌}
-use Rattle.std.proofs.Common.{map, reverse, length, take, drop, get_or, Option, Some, None, option_map, refl, sym}
-use Rattle.std.proofs.Common.{◌∙◌, ap, arith, append_assoc, length-append, length-take, length-drop, take-append-drop}
-use Rattle.std.proofs.lemmas.List.{map-append, reverse-append, append-nil, length-map, length-reverse, take-append-le}
-use Rattle.std.proofs.lemmas.List.{drop-append-le, drop_all, take_all, take_at, drop_at, get_or-reverse, get_or-map}
-use Rattle.std.proofs.lemmas.List.{get_or-drop}
+use Rattle.std.proofs.Common.{length, take, drop, Option, Some, None, option_map, refl, sym, ◌∙◌, ap, ap₂, arith}
+use Rattle.std.proofs.lemmas.List.{drop_all, length-take-le}
 use Rattle.demangle_core.specs.Core.{Core}
 use Rattle.demangle_printing.specs.State.{Held, rest, is_own_item}
 use Rattle.demangle_printing.specs.Act.{put_back}
 use Rattle.demangle_printing.specs.World.{nth}
-use Rattle.demangle_context.specs.Items.{Items, tree_of, item_at, with_kept, with_returned}
-use Rattle.demangle_context.specs.ItemsOf.{newest_first}
+use Rattle.demangle_context.specs.Items.{Items, tree_of, item_at, without_top, with_kept, with_top_kept, with_returned}
+use Rattle.demangle_context.specs.Items.{set_aside, brought_back}
+use Rattle.demangle_context.specs.ItemsOf.{newest_first, stacked}
+use Rattle.demangle_context.proofs.Lists.{newest_pushed, above_pushed, below_pushed, above_all, below_all, newest_parts}
+use Rattle.demangle_context.proofs.Lists.{length_below, above_lower, below_lower, nth_above, nth_past}
 
--- ---- the newest
-pub newest_pushed : {A B : Type 0} (f : A → B) (xs : List A) (x : A) →
-    newest_first f (xs ++ x ∷ []) ≡ f x ∷ newest_first f xs
-newest_pushed f xs x = rw (map-append, reverse-append) refl
+-- ---- an item comes and goes
+pub stack_pushed : {A : Type 0} (f : A → Held Core) (b : ℕ) (xs ys ks : List A) (l m : ℕ) (x : A) → b ≤ length xs →
+    ys ≡ xs ++ x ∷ [] →
+    stacked f b ys ks l m ≡ record (stacked f b xs ks l m) { inner = f x ∷ newest_first f (drop b xs) }
+stack_pushed f b xs ys ks l m x h e =
+    ap (λ z. stacked f b z ks l m) e
+    ∙ ap₂ (λ y z. record (stacked f b xs ks l m) { inner = y; aside = z }) (above_pushed f b xs x h)
+      (below_pushed f b xs x h)
 
-pub above_pushed : {A B : Type 0} (f : A → B) (n : ℕ) (xs : List A) (x : A) → n ≤ length xs →
-    newest_first f (drop n (xs ++ x ∷ [])) ≡ f x ∷ newest_first f (drop n xs)
-above_pushed f n xs x h = rw (drop-append-le n xs (x ∷ []) h) (newest_pushed f (drop n xs) x)
+pub stack_popped : {A : Type 0} (f : A → Held Core) (b : ℕ) (xs ys ks : List A) (l m : ℕ) (x : A) → b ≤ length ys →
+    xs ≡ ys ++ x ∷ [] →
+    stacked f b ys ks l m ≡ without_top (stacked f b xs ks l m)
+stack_popped f b xs ys ks l m x h e = sym (ap without_top (stack_pushed f b ys xs ks l m x h e))
 
-pub below_pushed : {A B : Type 0} (f : A → B) (n : ℕ) (xs : List A) (x : A) → n ≤ length xs →
-    newest_first f (take n (xs ++ x ∷ [])) ≡ newest_first f (take n xs)
-below_pushed f n xs x h = ap (newest_first f) (take-append-le n xs (x ∷ []) h)
+pub top_popped : {A : Type 0} (f : A → Held Core) (b : ℕ) (xs ys : List A) (x : A) → b ≤ length ys →
+    xs ≡ ys ++ x ∷ [] →
+    nth 0 (newest_first f (drop b xs)) ≡ Some (f x)
+top_popped f b xs ys x h e = ap (λ z. nth 0 (newest_first f (drop b z))) e ∙ ap (nth 0) (above_pushed f b ys x h)
 
-pub above_all : {A B : Type 0} (f : A → B) (n : ℕ) (xs : List A) → length xs ≤ n → newest_first f (drop n xs) ≡ []
-above_all f n xs h = ap (newest_first f) (drop_all n xs h)
+pub stack_empty : {A : Type 0} (f : A → Held Core) (b : ℕ) (xs ks : List A) (l m : ℕ) → length xs ≤ b →
+    stacked f b xs ks l m ≡ without_top (stacked f b xs ks l m)
+stack_empty f b xs ks l m h =
+    let e = above_all f b xs h in
+    ap (λ z. record (stacked f b xs ks l m) { inner = z }) e
+    ∙ sym (ap (λ z. record (stacked f b xs ks l m) { inner = rest z }) e)
 
-pub below_all : {A B : Type 0} (f : A → B) (n : ℕ) (xs : List A) → length xs ≤ n →
-    newest_first f (take n xs) ≡ newest_first f xs
-below_all f n xs h = ap (newest_first f) (take_all n xs h)
-
-pub length_newest : {A B : Type 0} (f : A → B) (xs : List A) → length (newest_first f xs) ≡ length xs
-length_newest f xs = rw (length-reverse, length-map) refl
-
--- ---- above the base and below it
-pub newest_parts : {A B : Type 0} (f : A → B) (n : ℕ) (xs : List A) →
-    newest_first f xs ≡ newest_first f (drop n xs) ++ newest_first f (take n xs)
-newest_parts f n xs =
-    ap (newest_first f) (sym (take-append-drop n xs))
-    ∙ (ap reverse (map-append f (take n xs) (drop n xs)) ∙ reverse-append (map f (take n xs)) (map f (drop n xs)))
-
-pub length_above : {A B : Type 0} (f : A → B) (n : ℕ) (xs : List A) →
-    length (newest_first f (drop n xs)) ≡ length xs - n
-length_above f n xs = length_newest f (drop n xs) ∙ length-drop n xs
-
-pub length_below : {A B : Type 0} (f : A → B) (n : ℕ) (xs : List A) → n ≤ length xs →
-    length (newest_first f (take n xs)) ≡ n
-length_below f n xs h = let a = length_newest f (take n xs) in let b = length-take n xs in omega (arith, a, b)
-
--- how many are above the base and below it
-pub length_parts : {A B : Type 0} (f : A → B) (n : ℕ) (xs : List A) → n ≤ length xs →
-    length (newest_first f (take n xs)) + length (newest_first f (drop n xs)) ≡ length xs
-length_parts f n xs h = let a = length_below f n xs h in let b = length_above f n xs in omega (arith, a, b)
-
--- the base moved down
-pub above_lower : {A B : Type 0} (f : A → B) (n k : ℕ) (xs : List A) → length xs - n ≡ k →
-    newest_first f (drop n xs) ≡ take k (newest_first f xs)
-above_lower f n k xs h =
-    sym (ap (take k) (newest_parts f n xs)
-    ∙ take_at (newest_first f (drop n xs)) (newest_first f (take n xs)) k (length_above f n xs ∙ h))
-
-pub below_lower : {A B : Type 0} (f : A → B) (n k : ℕ) (xs : List A) → length xs - n ≡ k →
-    newest_first f (take n xs) ≡ drop k (newest_first f xs)
-below_lower f n k xs h =
-    sym (ap (drop k) (newest_parts f n xs)
-    ∙ drop_at (newest_first f (drop n xs)) (newest_first f (take n xs)) k (length_above f n xs ∙ h))
-
--- ---- one item
-pub nth_there : {A : Type 0} (k : ℕ) (xs : List A) (d : A) → k < length xs → nth k xs ≡ Some (get_or xs k d)
-nth_there k [] d h = absurd (omega (arith, h))
-nth_there zero (x ∷ xs) d h = refl
-nth_there (suc k) (x ∷ xs) d h = nth_there k xs d (let a = h in omega (arith, a))
-
-pub nth_past : {A : Type 0} (k : ℕ) (xs : List A) → length xs ≤ k → nth k xs ≡ None
-nth_past k [] h = refl
-nth_past zero (x ∷ xs) h = absurd (omega (arith, h))
-nth_past (suc k) (x ∷ xs) h = nth_past k xs (let a = h in omega (arith, a))
-
--- so many from the top, above the base
-pub nth_above : {A B : Type 0} (f : A → B) (n k i : ℕ) (xs : List A) (d : A) → k + n < length xs →
-    i + (k + 1) ≡ length xs →
-    nth k (newest_first f (drop n xs)) ≡ Some (f (get_or xs i d))
-nth_above f n k i xs d h e =
-    let len : length (drop n xs) ≡ length xs - n = length-drop n xs in
-    let len_map : length (map f (drop n xs)) ≡ length xs - n = length-map (drop n xs) f ∙ len in
-    let small : k < length (map f (drop n xs)) = omega (arith, len_map, h) in
-    let here : k < length (newest_first f (drop n xs)) = omega (arith, length_above f n xs, h) in
-    let turned : get_or (newest_first f (drop n xs)) k (f d)
-        ≡ get_or (map f (drop n xs)) (length (map f (drop n xs)) - 1 - k) (f d) =
-      get_or-reverse (map f (drop n xs)) k (f d) small in
-    let j : ℕ = length (map f (drop n xs)) - 1 - k in
-    let place : n + (length (map f (drop n xs)) - 1 - k) ≡ i = omega (arith, len_map, h, e) in
-    let inside : length (map f (drop n xs)) - 1 - k < length (drop n xs) = omega (arith, len_map, len, h) in
-    let mapped : get_or (map f (drop n xs)) (length (map f (drop n xs)) - 1 - k) (f d)
-        ≡ f (get_or (drop n xs) (length (map f (drop n xs)) - 1 - k) d) =
-      get_or-map f (drop n xs) (length (map f (drop n xs)) - 1 - k) d (f d) inside in
-    let dropped : get_or (drop n xs) (length (map f (drop n xs)) - 1 - k) d
-        ≡ get_or xs (n + (length (map f (drop n xs)) - 1 - k)) d =
-      get_or-drop n xs (length (map f (drop n xs)) - 1 - k) d in
-    nth_there k (newest_first f (drop n xs)) (f d) here
-    ∙ ap Some (turned ∙ (mapped ∙ ap f (dropped ∙ ap (λ z. get_or xs z d) place)))
+pub top_empty : {A : Type 0} (f : A → Held Core) (b : ℕ) (xs : List A) → length xs ≤ b →
+    nth 0 (newest_first f (drop b xs)) ≡ None
+top_empty f b xs h = ap (nth 0) (above_all f b xs h)
 
 -- ---- the top item
-pub first_own : (n : ℕ) (hs : List (Held Core)) (h : Held Core) → nth 0 hs ≡ Some h →
-    is_own_item n hs ≡ (h.level == n)
+pub first_own : (n : ℕ) (hs : List (Held Core)) (h : Held Core) → nth 0 hs ≡ Some h → is_own_item n hs ≡ (h.level == n)
 first_own n [] h e = absurd (let k : None ≡ Some h = e in cc)
 first_own n (g ∷ hs) h e = let k : Some g ≡ Some h = e in let same : g ≡ h = cc in ap (λ z. z.level == n) same
 
@@ -113,7 +51,7 @@ pub none_own : (n : ℕ) (hs : List (Held Core)) → nth 0 hs ≡ None → is_ow
 none_own n [] e = refl
 none_own n (g ∷ hs) e = absurd (let k : Some g ≡ None = e in cc)
 
-pub first_kept : (s : Items) (hs : List (Held Core)) (h : Held Core) → nth 0 hs ≡ Some h →
+first_kept : (s : Items) (hs : List (Held Core)) (h : Held Core) → nth 0 hs ≡ Some h →
     with_kept hs s ≡ record s { inner = rest hs; kept = h ∷ s.kept }
 first_kept s [] h e = absurd (let k : None ≡ Some h = e in cc)
 first_kept s (g ∷ hs) h e =
@@ -128,8 +66,22 @@ pub tree_at : {A : Type 0} (f : A → Held Core) (g : A → Core) → ((x : A) �
 tree_at f g same None k hs e = ap (option_map tree_of) e
 tree_at f g same (Some x) k hs e = ap Some (sym (same x)) ∙ ap (option_map tree_of) e
 
+-- The top item is kept, once it stands on the other stack and is popped from this one.
+pub stack_kept : {A : Type 0} (f : A → Held Core) (b : ℕ) (xs ks js : List A) (l m : ℕ) (x : A) (new : Items) →
+    nth 0 (newest_first f (drop b xs)) ≡ Some (f x) →
+    js ≡ ks ++ x ∷ [] →
+    new ≡ without_top (stacked f b xs js l m) →
+    new ≡ with_top_kept (stacked f b xs ks l m)
+stack_kept f b xs ks js l m x new top e after =
+    after
+    ∙ (ap (λ z. without_top (stacked f b xs z l m)) e
+    ∙ (ap (λ z. record (stacked f b xs ks l m) { inner = rest (newest_first f (drop b xs)); kept = z })
+      (newest_pushed f ks x)
+    ∙ sym (first_kept (stacked f b xs ks l m) (newest_first f (drop b xs)) (f x) top)))
+
 -- ---- items that are returned
-put_back_more : {A : Type 0} (n : ℕ) (ks is : List A) → put_back (suc n) ks is ≡ put_back n (drop 1 ks) (put_back 1 ks is)
+put_back_more : {A : Type 0} (n : ℕ) (ks is : List A) →
+    put_back (suc n) ks is ≡ put_back n (drop 1 ks) (put_back 1 ks is)
 put_back_more zero [] is = refl
 put_back_more (suc n) [] is = refl
 put_back_more n (k ∷ ks) is = refl
@@ -141,9 +93,7 @@ drop_more n (k ∷ ks) = refl
 
 pub returned_more : (n : ℕ) (s : Items) → with_returned (suc n) s ≡ with_returned n (with_returned 1 s)
 returned_more n s =
-    ap (λ z. record s { inner = z; kept = drop (suc n) s.kept }) (put_back_more n s.kept s.inner)
-    ∙ ap (λ z. record s { inner = put_back n (drop 1 s.kept) (put_back 1 s.kept s.inner); kept = z })
-      (drop_more n s.kept)
+    ap₂ (λ y z. record s { inner = y; kept = z }) (put_back_more n s.kept s.inner) (drop_more n s.kept)
 
 -- More than all are all.
 put_back_all : {A : Type 0} (n m : ℕ) (ks is : List A) → length ks ≤ n → length ks ≤ m →
@@ -157,12 +107,38 @@ put_back_all (suc n) zero (k ∷ ks) is g h = absurd (omega (arith, h))
 put_back_all (suc n) (suc m) (k ∷ ks) is g h =
     put_back_all n m ks (k ∷ is) (let a = g in omega (arith, a)) (let a = h in omega (arith, a))
 
-pub returned_all : (n m : ℕ) (s : Items) → length s.kept ≤ n → length s.kept ≤ m →
-    with_returned n s ≡ with_returned m s
+pub returned_all : (n m : ℕ) (s : Items) → length s.kept ≤ n → length s.kept ≤ m → with_returned n s ≡ with_returned m s
 returned_all n m s g h =
-    ap (λ z. record s { inner = z; kept = drop n s.kept }) (put_back_all n m s.kept s.inner g h)
-    ∙ ap (λ z. record s { inner = put_back m s.kept s.inner; kept = z })
-      (drop_all n s.kept g ∙ sym (drop_all m s.kept h))
+    ap₂ (λ y z. record s { inner = y; kept = z }) (put_back_all n m s.kept s.inner g h)
+    (drop_all n s.kept g ∙ sym (drop_all m s.kept h))
 
-pub returned_none : (s : Items) → with_returned 0 s ≡ s
-returned_none s = refl
+pub stack_returned : {A : Type 0} (f : A → Held Core) (b : ℕ) (xs ys ks js : List A) (l m : ℕ) (x : A) →
+    b ≤ length xs →
+    ks ≡ js ++ x ∷ [] →
+    ys ≡ xs ++ x ∷ [] →
+    stacked f b ys js l m ≡ with_returned 1 (stacked f b xs ks l m)
+stack_returned f b xs ys ks js l m x h e g =
+    stack_pushed f b xs ys js l m x h g
+    ∙ sym (ap (λ z. with_returned 1 (record (stacked f b xs ks l m) { kept = z }))
+      (ap (newest_first f) e ∙ newest_pushed f js x))
+
+-- ---- the base moves
+pub stack_aside : {A : Type 0} (f : A → Held Core) (b n : ℕ) (xs ks : List A) (l m : ℕ) → n ≡ length xs →
+    stacked f n xs ks l m ≡ set_aside (stacked f b xs ks l m)
+stack_aside f b n xs ks l m e =
+    ap₂ (λ y z. record (stacked f b xs ks l m) { inner = y; aside = z }) (above_all f n xs (omega (arith, e)))
+    (below_all f n xs (omega (arith, e)) ∙ newest_parts f b xs)
+
+pub stack_restored : {A : Type 0} (f : A → Held Core) (b before n : ℕ) (xs ys ks : List A) (l m : ℕ) → b ≤ length xs →
+    ys ≡ take b xs →
+    n ≡ min b before →
+    stacked f n ys ks l m ≡ brought_back before (stacked f b xs ks l m)
+stack_restored f b before n xs ys ks l m h e g =
+    let count : length (newest_first f (take b xs)) ≡ b = length_below f b xs h in
+    let same : length (take b xs) ≡ b = length-take-le b xs h in
+    let left : length (take b xs) - n ≡ length (newest_first f (take b xs)) - before =
+        omega (arith, count, same, g) in
+    ap (λ z. stacked f n z ks l m) e
+    ∙ ap₂ (λ y z. record (stacked f b xs ks l m) { inner = y; aside = z })
+      (above_lower f n (length (newest_first f (take b xs)) - before) (take b xs) left)
+      (below_lower f n (length (newest_first f (take b xs)) - before) (take b xs) left)

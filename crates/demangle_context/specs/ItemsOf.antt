@@ -1,5 +1,5 @@
 -- What is seen of the stacks.
-use Rattle.std.specs.Prelude.{List, map, reverse, take, drop}
+use Rattle.std.specs.Prelude.{ℕ, List, map, reverse, take, drop}
 use Rattle.demangle_core.specs.Core.{Core}
 use Rattle.demangle_printing.specs.State.{Held}
 use Rattle.demangle_context.specs.Items.{Items}
@@ -14,12 +14,15 @@ abbrev pub newest_first : {A B : Type 0} → (A → B) → List A → List B
 newest_first f xs = reverse (map f xs)
 
 -- Above the base stand the items that wait, below it those that are set aside.
-unfoldable pub items_of : {T : Type 0} → (T → Core) → InnerItems T → Items
-items_of tree s =
+abbrev pub stacked : {A : Type 0} → (A → Held Core) → (base : ℕ) → (stack kept : List A) → (level limit : ℕ) → Items
+stacked f base xs ks level limit =
     record {
-      inner = newest_first (held tree) (drop s.base s.items.items);
-      kept = newest_first (held tree) s.kept.items;
-      aside = newest_first (held tree) (take s.base s.items.items);
-      level = s.level;
-      limit = s.limit;
+      inner = newest_first f (drop base xs);
+      kept = newest_first f ks;
+      aside = newest_first f (take base xs);
+      level = level;
+      limit = limit;
     }
+
+unfoldable pub items_of : {T : Type 0} → (T → Core) → InnerItems T → Items
+items_of tree s = stacked (held tree) s.base s.items.items s.kept.items s.level s.limit

@@ -1,5 +1,5 @@
 -- The options of printing where none was set.
-use Rattle.std.specs.Prelude.{false, None}
+use Rattle.std.specs.Prelude.{Bool, false, not, is_none, None, ◌==◌, ◌&&◌, ◌||◌}
 use Rattle.demangle_printing.specs.Outcome.{Options}
 
 abbrev pub default_options : Options
@@ -11,3 +11,9 @@ default_options =
       hide_expression_literal_types = false;
       output_limit = None;
     }
+
+-- whether these are they
+abbrev pub is_default : Options → Bool
+is_default o =
+    ((o.limit == 128) && is_none o.output_limit)
+    && not (o.no_params || (o.no_return_type || o.hide_expression_literal_types))

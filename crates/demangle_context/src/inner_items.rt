@@ -89,7 +89,7 @@ impl<T: InnerNode> InnerItems<T> {
     pub(crate) fn enter(&mut self) -> bool
         ensures entered { IsTrue result → items_of T.tree self.new ≡ one_deeper (items_of T.tree self.old) }
         ensures unchanged { result ≡ false → items_of T.tree self.new ≡ items_of T.tree self.old }
-        ensures exactly { result ≡ false ↔ ((items_of T.tree self.old).level + 1 ≡ (items_of T.tree self.old).limit) }
+        ensures exactly { (result ≡ false) ↔ ((items_of T.tree self.old).level + 1 ≡ (items_of T.tree self.old).limit) }
     {
         let level = self.level + 1;
         if level == self.limit {

@@ -1,7 +1,7 @@
 //! The options of printing.
 
-ghost use Rattle.std.specs.Prelude.{◌≡◌, ◌<◌, ◌↔◌, true, Some, IsTrue};
-ghost use Rattle.demangle_context.specs.Options.{default_options};
+ghost use Rattle.std.specs.Prelude.{◌≡◌, ◌<◌, ◌↔◌, true, not, Some, IsTrue};
+ghost use Rattle.demangle_context.specs.Options.{default_options, is_default};
 
 use std::marker::Model;
 
@@ -128,7 +128,8 @@ impl DemangleOptions {
 
     /// Whether each option is as where none was set; a limit of 128 levels may have been set.
     pub fn is_default(&self) -> bool
-        ensures { IsTrue result ↔ (self.now ≡ default_options) }
+        ensures value { result ≡ is_default self.now }
+        ensures exactly { IsTrue result ↔ (self.now ≡ default_options) }
     {
         let limits = self.limit == DEFAULT_RECURSION_LIMIT && self.output_limit.is_none();
         let left_out =
