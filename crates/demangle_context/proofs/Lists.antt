@@ -1,9 +1,9 @@
 -- Lists in memory, of which the last is the newest.
 use Rattle.std.proofs.Common.{◌≡◌, ℕ, zero, suc, ◌+◌, ◌-◌, ◌<◌, ◌≤◌, List, [], ◌∷◌, ◌++◌, map, reverse, length, take}
-use Rattle.std.proofs.Common.{drop, get_or, Some, None, refl, sym, ◌∙◌, ap, arith, length-take, length-drop, take-append-drop}
+use Rattle.std.proofs.Common.{drop, get_or, Some, None, refl, sym, ◌∙◌, ap, arith, length-take, length-drop}
 use Rattle.std.proofs.lemmas.List.{map-append, reverse-append, length-map, length-reverse, take-append-le}
 use Rattle.std.proofs.lemmas.List.{drop-append-le, drop_all, take_all, take_at, drop_at, get_or-reverse, get_or-map}
-use Rattle.std.proofs.lemmas.List.{get_or-drop}
+use Rattle.std.proofs.lemmas.List.{get_or-drop, take-append-drop}
 use Rattle.demangle_printing.specs.World.{nth}
 use Rattle.demangle_context.specs.ItemsOf.{newest_first}
 
@@ -86,7 +86,6 @@ nth_above f n k i xs d h e =
     let turned : get_or (newest_first f (drop n xs)) k (f d)
         ≡ get_or (map f (drop n xs)) (length (map f (drop n xs)) - 1 - k) (f d) =
       get_or-reverse (map f (drop n xs)) k (f d) small in
-    let j : ℕ = length (map f (drop n xs)) - 1 - k in
     let place : n + (length (map f (drop n xs)) - 1 - k) ≡ i = omega (arith, len_map, h, e) in
     let inside : length (map f (drop n xs)) - 1 - k < length (drop n xs) = omega (arith, len_map, len, h) in
     let mapped : get_or (map f (drop n xs)) (length (map f (drop n xs)) - 1 - k) (f d)

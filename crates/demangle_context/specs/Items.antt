@@ -38,8 +38,12 @@ tree_of h = h.item
 abbrev pub item_at : ℕ → List (Held Core) → Option Core
 item_at n hs = option_map tree_of (nth n hs)
 
+abbrev pub with_pushed_at : (level : ℕ) → Core → Items → Items
+with_pushed_at level x s = record s { inner = record { item = x; level = level } ∷ s.inner }
+
+-- pushed at the level
 abbrev pub with_pushed : Core → Items → Items
-with_pushed x s = record s { inner = record { item = x; level = s.level } ∷ s.inner }
+with_pushed x s = with_pushed_at s.level x s
 
 abbrev pub without_top : Items → Items
 without_top s = record s { inner = rest s.inner }

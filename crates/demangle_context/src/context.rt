@@ -5,9 +5,9 @@ ghost use Rattle.std.specs.Prelude.{OnErr, IsSomeAnd, length, option_map};
 ghost use Rattle.demangle_printing.specs.State.{has_room, less_room, is_own_item, is_byte};
 ghost use Rattle.demangle_context.specs.Kinds.{kind_of};
 ghost use Rattle.demangle_context.specs.Seen.{begins, ends};
-ghost use Rattle.demangle_context.specs.Items.{HasRoom, one_deeper, one_less_deep, item_at, with_pushed, without_top};
-ghost use Rattle.demangle_context.specs.Items.{without_top_if, with_top_kept, with_returned, set_aside, brought_back};
-ghost use Rattle.demangle_context.specs.Items.{no_items};
+ghost use Rattle.demangle_context.specs.Items.{HasRoom, one_deeper, one_less_deep, item_at, with_pushed};
+ghost use Rattle.demangle_context.specs.Items.{with_pushed_at, without_top, without_top_if, with_top_kept};
+ghost use Rattle.demangle_context.specs.Items.{with_returned, set_aside, no_items, brought_back};
 ghost use Rattle.demangle_context.specs.ItemsOf.{items_of};
 ghost use Rattle.demangle_context.specs.View.{view, first_view, with_items, state_of, flags_of};
 ghost use Rattle.demangle_context.specs.Calls.{EndsIn, Writing, Spacing, Announces, IsReadyToHold};
@@ -41,7 +41,7 @@ pub struct DemangleFlags {
 
 /// A printing: the table and the input that the nodes refer to, the listener, and the state. It lives no longer than
 /// the nodes, and no longer than the listener.
-pub struct Context<'a, 'w, T, S: 'a, W: 'w> {
+pub struct Context<'a, 'w, T: Copy, S: 'a, W: 'w> {
     items: InnerItems<T>,
     subs: &'a S,
     input: &'a [u8],
@@ -160,6 +160,14 @@ impl<'a, 'w, T: InnerNode, S: 'a, W: 'w + DemangleWrite> Context<'a, 'w, T, S, W
         self.items.level()
     }
 
+    /// The limit on levels.
+    #[tactic(auto, unfolding(crate::specs::View::view))]
+    pub fn recursion_limit(&self) -> u32
+        ensures { result ≡ (view T.tree W.seen self.now).items.limit }
+    {
+        self.items.limit()
+    }
+
     /// Raises the level. `TooMuchRecursion` is the one refusal, exactly where the level plus 1 is the limit.
     #[tactic(auto, unfolding(crate::specs::View::view))]
     pub fn enter(&mut self) -> Result<(), DemangleError>
@@ -250,7 +258,19 @@ impl<'a, 'w, T: InnerNode, S: 'a, W: 'w + DemangleWrite> Context<'a, 'w, T, S, W
         ensures room { HasRoom (view T.tree W.seen self.old).items → IsOk result }
         ensures fits { IsReadyToHold (view T.tree W.seen self.old) → IsOk result }
     {
-        match self.items.push(item) {
+        self.push_inner_at(item, self.items.level())
+    }
+
+    /// Pushes an item at a level, which a line may hold by value. It fails as `push_inner` may.
+    #[tactic(auto, unfolding(crate::specs::View::view))]
+    pub fn push_inner_at(&mut self, item: T, level: u32) -> Result<(), DemangleError>
+        ensures pushed { OnOk result (view T.tree W.seen self.new
+            ≡ with_items (with_pushed_at level (T.tree item)) (view T.tree W.seen self.old)) }
+        ensures refused { IfErr result (λ e. e ≡ DemangleError.OutOfMemory) }
+        ensures unchanged { OnErr result (view T.tree W.seen self.new ≡ view T.tree W.seen self.old) }
+        ensures room { HasRoom (view T.tree W.seen self.old).items → IsOk result }
+    {
+        match self.items.push(item, level) {
             Ok(()) => Ok(()),
             Err(_) => Err(DemangleError::OutOfMemory),
         }
@@ -397,5 +417,20 @@ impl<'a, 'w, T: InnerNode, S: 'a, W: 'w + DemangleWrite> Context<'a, 'w, T, S, W
         ensures { Announces (view T.tree W.seen self.old) (view T.tree W.seen self.new) ends }
     {
         self.out.pop_demangle_node();
+    }
+}
+
+impl<'a, 'w, T: Copy, S: 'a, W: 'w> Drop for Context<'a, 'w, T, S, W> {
+    fn drop(self) {
+        let Context {
+            items: _items,
+            subs: _subs,
+            input: _input,
+            out: _out,
+            last: _last,
+            source: _source,
+            flags: _flags,
+            room: _room,
+        } = self;
     }
 }

@@ -6,7 +6,7 @@ ghost use Rattle.demangle_core.specs.Core.{Core};
 ghost use Rattle.demangle_printing.specs.State.{is_own_item};
 ghost use Rattle.demangle_printing.specs.World.{nth};
 ghost use Rattle.demangle_context.specs.Room.{reserve};
-ghost use Rattle.demangle_context.specs.Items.{no_items, HasRoom, one_deeper, one_less_deep, item_at, with_pushed};
+ghost use Rattle.demangle_context.specs.Items.{no_items, HasRoom, one_deeper, one_less_deep, item_at, with_pushed_at};
 ghost use Rattle.demangle_context.specs.Items.{without_top, without_top_if, with_top_kept, with_returned, set_aside};
 ghost use Rattle.demangle_context.specs.Items.{brought_back};
 
@@ -23,7 +23,7 @@ pub trait InnerNode: Copy {
 
 /// An item, and the level at which it was pushed.
 #[derive(Clone, Copy)]
-struct HeldItem<T> {
+struct HeldItem<T: Copy> {
     item: T,
     level: u32,
 }
@@ -45,7 +45,7 @@ impl Model for InnerBarrier {
 /// The level of a printing, the inner items that wait, that are set aside below the base, and that are kept. Each of
 /// the two stacks has room, from the beginning, for as many items as there are levels, but at most for 65,536.
 #[derive(Drop)]
-pub struct InnerItems<T> {
+pub struct InnerItems<T: Copy> {
     items: Vec<HeldItem<T>>,
     base: usize,
     kept: Vec<HeldItem<T>>,
@@ -83,6 +83,13 @@ impl<T: InnerNode> InnerItems<T> {
         ensures below { result < (items_of T.tree self.now).limit }
     {
         self.level
+    }
+
+    /// How many levels there are.
+    pub(crate) fn limit(&self) -> u32
+        ensures { result ≡ (items_of T.tree self.now).limit }
+    {
+        self.limit
     }
 
     /// Enters a level, and tells whether there was one.
@@ -141,13 +148,13 @@ impl<T: InnerNode> InnerItems<T> {
         }
     }
 
-    /// Pushes an item at the level.
-    pub(crate) fn push(&mut self, item: T) -> Result<(), AllocError>
-        ensures pushed { OnOk result (items_of T.tree self.new ≡ with_pushed (T.tree item) (items_of T.tree self.old)) }
+    /// Pushes an item at a level.
+    pub(crate) fn push(&mut self, item: T, level: u32) -> Result<(), AllocError>
+        ensures pushed { OnOk result (items_of T.tree self.new
+            ≡ with_pushed_at level (T.tree item) (items_of T.tree self.old)) }
         ensures unchanged { OnErr result (items_of T.tree self.new ≡ items_of T.tree self.old) }
         ensures room { HasRoom (items_of T.tree self.old) → IsOk result }
     {
-        let level = self.level;
         match self.items.push(HeldItem { item, level }) {
             Ok(()) => Ok(()),
             Err(_) => Err(AllocError),

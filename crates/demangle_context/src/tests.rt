@@ -66,7 +66,7 @@ fn failing_at(call: u64) -> FaultyListener {
 }
 
 /// A context of plain nodes, over no table and no input.
-fn context<'w, W: DemangleWrite>(
+fn context<'w, W: 'w + DemangleWrite>(
     alloc: Global,
     options: DemangleOptions,
     out: &'w mut W,
