@@ -1,7 +1,8 @@
 -- The last character of a text, and its last byte.
 use Rattle.std.proofs.Common.{◌≡◌, ℕ, ◌+◌, ◌/◌, ◌%◌, ◌<◌, ◌≤◌, ◌==◌, cond, Bool, true, false, List, [], ◌∷◌, ◌++◌}
-use Rattle.std.proofs.Common.{length, Option, Some, None, refl, sym, ◌∙◌, ap, subst, arith, eqb-true, eq-eqb, lt-ltb}
-use Rattle.std.proofs.Common.{le-ltb, ltb, inl, inr, ⊎_elim}
+use Rattle.std.proofs.Common.{length, Option, Some, None, refl, sym, ◌∙◌, ap, arith, eq-eqb}
+use Rattle.std.proofs.Common.{zero, suc, ltb, ⊎_elim}
+use Rattle.std.specs.Prelude.{IsSomeAnd}
 use Rattle.std.proofs.lemmas.Bool.{ne_eqb, ltb-false, cases_eq}
 use lib.Utf8.{encode}
 use Rattle.demangle_printing.specs.State.{last_of, is_byte}
@@ -13,12 +14,12 @@ last_append d [] ys = refl
 last_append d (x ∷ xs) ys = last_append (Some x) xs ys
 
 -- the last byte of a character past ASCII
-tail : ℕ → ℕ
+abbrev tail : ℕ → ℕ
 tail c = 128 + c % 64
 
 by_tests : (d : Option ℕ) (c : ℕ) (a b e : Bool) → ltb c 128 ≡ a → ltb c 2048 ≡ b → ltb c 65536 ≡ e →
     last_of d (encode c) ≡ Some (cond a c (tail c))
-unfolding encode tail
+unfolding encode
 by_tests d c true b e f g h = rw f refl
 by_tests d c false true e f g h = rw (f, g) refl
 by_tests d c false false true f g h = rw (f, g, h) refl
@@ -37,10 +38,14 @@ last_in_text old new (b ∷ bs) p =
     ∙ sym (ap (last_of (last_byte old)) e
     ∙ (last_append (last_byte old) p.2.front (encode p.0) ∙ last_encode (last_of (last_byte old) p.2.front) p.0)))
 
-pub is_last_char : (s : List ℕ) (old new : Option ℕ) (c : ℕ) → 0 < length s → new ≡ Some c → EndsIn s c →
-    LastChar s old new
-is_last_char [] old new c h e p = absurd (omega (arith, h))
-is_last_char (b ∷ bs) old new c h e p = (c, e, p)
+pub is_last_char : (s : List ℕ) (old new : Option ℕ) → 0 < length s → IsSomeAnd new (EndsIn s) → LastChar s old new
+is_last_char [] old new h p = absurd (omega (arith, h))
+is_last_char (b ∷ bs) old None h p = absurd p
+is_last_char (b ∷ bs) old (Some c) h p = (c, refl, p)
+
+pub has_bytes : (n : ℕ) → false ≡ (n == 0) → 0 < n
+has_bytes zero e = absurd (let k : false ≡ true = e in cc)
+has_bytes (suc n) e = omega arith
 
 -- ---- one byte
 same_byte : (b x : ℕ) → (x == b) ≡ (b == x)
@@ -48,7 +53,6 @@ same_byte b x = ⊎_elim (λ e. eq-eqb x b e ∙ sym (eq-eqb b x (sym e)))
     (λ n. ne_eqb x b n ∙ sym (ne_eqb b x (λ e. n (sym e)))) (cases_eq x b)
 
 ascii_by : (b c : ℕ) (small : Bool) → ltb c 128 ≡ small → b < 128 → (c == b) ≡ (b == cond small c (tail c))
-unfolding tail
 ascii_by b c true f h = same_byte b c
 ascii_by b c false f h =
     let past : 128 ≤ c = ltb-false c 128 f in

@@ -4,4 +4,3 @@ pub mod Hold
 pub mod Characters
 pub mod Heard
 pub mod Texts
-pub mod Defaults

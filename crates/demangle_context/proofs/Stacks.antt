@@ -7,10 +7,11 @@ use Rattle.demangle_printing.specs.State.{Held, rest, is_own_item}
 use Rattle.demangle_printing.specs.Act.{put_back}
 use Rattle.demangle_printing.specs.World.{nth}
 use Rattle.demangle_context.specs.Items.{Items, tree_of, item_at, without_top, with_kept, with_top_kept, with_returned}
-use Rattle.demangle_context.specs.Items.{set_aside, brought_back}
+use Rattle.demangle_context.specs.Items.{set_aside, brought_back, HasRoom}
+use Rattle.demangle_context.specs.Room.{reserve}
 use Rattle.demangle_context.specs.ItemsOf.{newest_first, stacked}
 use Rattle.demangle_context.proofs.Lists.{newest_pushed, above_pushed, below_pushed, above_all, below_all, newest_parts}
-use Rattle.demangle_context.proofs.Lists.{length_below, above_lower, below_lower, nth_above, nth_past}
+use Rattle.demangle_context.proofs.Lists.{length_below, length_parts, length_newest, above_lower, below_lower}
 
 -- ---- an item comes and goes
 pub stack_pushed : {A : Type 0} (f : A → Held Core) (b : ℕ) (xs ys ks : List A) (l m : ℕ) (x : A) → b ≤ length xs →
@@ -91,9 +92,19 @@ drop_more zero [] = refl
 drop_more (suc n) [] = refl
 drop_more n (k ∷ ks) = refl
 
-pub returned_more : (n : ℕ) (s : Items) → with_returned (suc n) s ≡ with_returned n (with_returned 1 s)
+returned_more : (n : ℕ) (s : Items) → with_returned (suc n) s ≡ with_returned n (with_returned 1 s)
 returned_more n s =
     ap₂ (λ y z. record s { inner = y; kept = z }) (put_back_more n s.kept s.inner) (drop_more n s.kept)
+
+pub returned_step : (n : ℕ) (s t u : Items) → 0 < n → t ≡ with_returned 1 s → with_returned n s ≡ u →
+    with_returned (n - 1) t ≡ u
+returned_step zero s t u h e p = absurd (omega (arith, h))
+returned_step (suc n) s t u h e p =
+    let k : suc n - 1 ≡ n = omega arith in
+    ap (λ z. with_returned z t) k ∙ (ap (with_returned n) e ∙ (sym (returned_more n s) ∙ p))
+
+pub returned_end : (n : ℕ) (s u : Items) → n ≤ 0 → with_returned n s ≡ u → s ≡ u
+returned_end n s u h p = let k : 0 ≡ n = omega (arith, h) in ap (λ z. with_returned z s) k ∙ p
 
 -- More than all are all.
 put_back_all : {A : Type 0} (n m : ℕ) (ks is : List A) → length ks ≤ n → length ks ≤ m →
@@ -142,3 +153,11 @@ stack_restored f b before n xs ys ks l m h e g =
     ∙ ap₂ (λ y z. record (stacked f b xs ks l m) { inner = y; aside = z })
       (above_lower f n (length (newest_first f (take b xs)) - before) (take b xs) left)
       (below_lower f n (length (newest_first f (take b xs)) - before) (take b xs) left)
+
+-- ---- room
+pub room_above : {A : Type 0} (f : A → Held Core) (b : ℕ) (xs ks : List A) (l m room : ℕ) → b ≤ length xs →
+    reserve m ≤ room →
+    HasRoom (stacked f b xs ks l m) →
+    length xs + length ks < room
+room_above f b xs ks l m room h e r =
+    let a = length_parts f b xs h in let c = length_newest f ks in omega (arith, a, c, e, r.is)

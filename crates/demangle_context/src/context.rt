@@ -77,6 +77,7 @@ fn room_behind(room: Option<usize>, length: usize) -> Result<Option<usize>, Dema
     }
 }
 
+#[tactic(auto, unfolding(crate::specs::View::view))]
 impl<'a, 'w, T: InnerNode, S: 'a, W: 'w + DemangleWrite> Context<'a, 'w, T, S, W> {
     /// A printing of which nothing is printed, with stacks that have room for as many items as there are levels, but at
     /// most for 65,536. `OutOfMemory` is the one refusal.
@@ -152,7 +153,6 @@ impl<'a, 'w, T: InnerNode, S: 'a, W: 'w + DemangleWrite> Context<'a, 'w, T, S, W
     }
 
     /// The level, which is below the limit.
-    #[tactic(auto, unfolding(crate::specs::View::view))]
     pub fn recursion_level(&self) -> u32
         ensures value { result ≡ (view T.tree W.seen self.now).items.level }
         ensures below { result < (view T.tree W.seen self.now).items.limit }
@@ -161,7 +161,6 @@ impl<'a, 'w, T: InnerNode, S: 'a, W: 'w + DemangleWrite> Context<'a, 'w, T, S, W
     }
 
     /// The limit on levels.
-    #[tactic(auto, unfolding(crate::specs::View::view))]
     pub fn recursion_limit(&self) -> u32
         ensures { result ≡ (view T.tree W.seen self.now).items.limit }
     {
@@ -169,7 +168,6 @@ impl<'a, 'w, T: InnerNode, S: 'a, W: 'w + DemangleWrite> Context<'a, 'w, T, S, W
     }
 
     /// Raises the level. `TooMuchRecursion` is the one refusal, exactly where the level plus 1 is the limit.
-    #[tactic(auto, unfolding(crate::specs::View::view))]
     pub fn enter(&mut self) -> Result<(), DemangleError>
         ensures deeper { OnOk result (view T.tree W.seen self.new
             ≡ with_items one_deeper (view T.tree W.seen self.old)) }
@@ -185,7 +183,6 @@ impl<'a, 'w, T: InnerNode, S: 'a, W: 'w + DemangleWrite> Context<'a, 'w, T, S, W
     }
 
     /// Lowers the level.
-    #[tactic(auto, unfolding(crate::specs::View::view))]
     pub fn leave(&mut self)
         requires { 0 < (view T.tree W.seen self.old).items.level }
         ensures { view T.tree W.seen self.new ≡ with_items one_less_deep (view T.tree W.seen self.old) }
@@ -196,7 +193,6 @@ impl<'a, 'w, T: InnerNode, S: 'a, W: 'w + DemangleWrite> Context<'a, 'w, T, S, W
     /// Writes a text: the listener is told it in one piece, then its last character is kept and the room falls by its
     /// length. An empty text does nothing. `TooLong` comes exactly where the text is longer than the room, before the
     /// listener is asked; `Sink` and `OutOfMemory` only where the listener's count of them rose.
-    #[tactic(auto, unfolding(crate::specs::View::view))]
     pub fn write(&mut self, s: &str) -> Result<(), DemangleError>
         ensures { Writing (view T.tree W.seen self.old) (view T.tree W.seen self.new) result s.now }
     {
@@ -217,7 +213,6 @@ impl<'a, 'w, T: InnerNode, S: 'a, W: 'w + DemangleWrite> Context<'a, 'w, T, S, W
     }
 
     /// Writes a space, unless the last character is one.
-    #[tactic(auto, unfolding(crate::specs::View::view))]
     pub fn ensure_space(&mut self) -> Result<(), DemangleError>
         ensures { Spacing (view T.tree W.seen self.old) (view T.tree W.seen self.new) result }
     {
@@ -228,7 +223,6 @@ impl<'a, 'w, T: InnerNode, S: 'a, W: 'w + DemangleWrite> Context<'a, 'w, T, S, W
     }
 
     /// Whether the last character is this one, of ASCII: whether the last byte is.
-    #[tactic(auto, unfolding(crate::specs::View::view))]
     pub fn ends_in(&self, c: char) -> bool
         requires { c < 128 }
         ensures { result ≡ is_byte c (state_of (view T.tree W.seen self.now)).last }
@@ -240,7 +234,6 @@ impl<'a, 'w, T: InnerNode, S: 'a, W: 'w + DemangleWrite> Context<'a, 'w, T, S, W
     }
 
     /// The last character that was written; `None` exactly where nothing was.
-    #[tactic(auto, unfolding(crate::specs::View::view))]
     pub fn last_char(&self) -> Option<char>
         ensures { result ≡ (view T.tree W.seen self.now).last_char }
     {
@@ -249,7 +242,6 @@ impl<'a, 'w, T: InnerNode, S: 'a, W: 'w + DemangleWrite> Context<'a, 'w, T, S, W
 
     /// Pushes an item at the level. Up to a limit of 65,536 it doesn't fail where no two items have one level, be they
     /// set aside, waiting or kept, and the level is above all of theirs. `OutOfMemory` is the one refusal.
-    #[tactic(auto, unfolding(crate::specs::View::view))]
     pub fn push_inner(&mut self, item: T) -> Result<(), DemangleError>
         ensures pushed { OnOk result (view T.tree W.seen self.new
             ≡ with_items (with_pushed (T.tree item)) (view T.tree W.seen self.old)) }
@@ -258,11 +250,11 @@ impl<'a, 'w, T: InnerNode, S: 'a, W: 'w + DemangleWrite> Context<'a, 'w, T, S, W
         ensures room { HasRoom (view T.tree W.seen self.old).items → IsOk result }
         ensures fits { IsReadyToHold (view T.tree W.seen self.old) → IsOk result }
     {
-        self.push_inner_at(item, self.items.level())
+        let level = self.items.level();
+        self.push_inner_at(item, level)
     }
 
     /// Pushes an item at a level, which a line may hold by value. It fails as `push_inner` may.
-    #[tactic(auto, unfolding(crate::specs::View::view))]
     pub fn push_inner_at(&mut self, item: T, level: u32) -> Result<(), DemangleError>
         ensures pushed { OnOk result (view T.tree W.seen self.new
             ≡ with_items (with_pushed_at level (T.tree item)) (view T.tree W.seen self.old)) }
@@ -277,7 +269,6 @@ impl<'a, 'w, T: InnerNode, S: 'a, W: 'w + DemangleWrite> Context<'a, 'w, T, S, W
     }
 
     /// The top item, taken out; `None` exactly where none waits.
-    #[tactic(auto, unfolding(crate::specs::View::view))]
     pub fn pop_inner(&mut self) -> Option<T>
         ensures after { view T.tree W.seen self.new ≡ with_items without_top (view T.tree W.seen self.old) }
         ensures value { option_map T.tree result ≡ item_at 0 (view T.tree W.seen self.old).items.inner }
@@ -286,7 +277,6 @@ impl<'a, 'w, T: InnerNode, S: 'a, W: 'w + DemangleWrite> Context<'a, 'w, T, S, W
     }
 
     /// Takes the top item out and answers true, exactly where it was pushed at this level.
-    #[tactic(auto, unfolding(crate::specs::View::view))]
     pub fn pop_inner_if(&mut self, level: u32) -> bool
         ensures value { result ≡ is_own_item level (view T.tree W.seen self.old).items.inner }
         ensures after { view T.tree W.seen self.new
@@ -296,7 +286,6 @@ impl<'a, 'w, T: InnerNode, S: 'a, W: 'w + DemangleWrite> Context<'a, 'w, T, S, W
     }
 
     /// The item so many from the top; `None` exactly where fewer wait.
-    #[tactic(auto, unfolding(crate::specs::View::view))]
     pub fn inner_at(&self, from_top: usize) -> Option<T>
         ensures { option_map T.tree result ≡ item_at from_top (view T.tree W.seen self.now).items.inner }
     {
@@ -304,7 +293,6 @@ impl<'a, 'w, T: InnerNode, S: 'a, W: 'w + DemangleWrite> Context<'a, 'w, T, S, W
     }
 
     /// How many items wait.
-    #[tactic(auto, unfolding(crate::specs::View::view))]
     pub fn inner_len(&self) -> usize
         ensures { result ≡ length (view T.tree W.seen self.now).items.inner }
     {
@@ -312,7 +300,6 @@ impl<'a, 'w, T: InnerNode, S: 'a, W: 'w + DemangleWrite> Context<'a, 'w, T, S, W
     }
 
     /// Keeps the top item with its level, where there is one. It fails where `push_inner` may.
-    #[tactic(auto, unfolding(crate::specs::View::view))]
     pub fn keep_inner(&mut self) -> Result<(), DemangleError>
         ensures kept { OnOk result (view T.tree W.seen self.new
             ≡ with_items with_top_kept (view T.tree W.seen self.old)) }
@@ -328,7 +315,6 @@ impl<'a, 'w, T: InnerNode, S: 'a, W: 'w + DemangleWrite> Context<'a, 'w, T, S, W
     }
 
     /// How many items are kept.
-    #[tactic(auto, unfolding(crate::specs::View::view))]
     pub fn kept_len(&self) -> usize
         ensures { result ≡ length (view T.tree W.seen self.now).items.kept }
     {
@@ -337,7 +323,6 @@ impl<'a, 'w, T: InnerNode, S: 'a, W: 'w + DemangleWrite> Context<'a, 'w, T, S, W
 
     /// The last so many kept items wait again with their levels, the last kept one lowest; all of them, where there are
     /// fewer. It fails where `push_inner` may.
-    #[tactic(auto, unfolding(crate::specs::View::view))]
     pub fn return_kept(&mut self, count: usize) -> Result<(), DemangleError>
         ensures returned { OnOk result (view T.tree W.seen self.new
             ≡ with_items (with_returned count) (view T.tree W.seen self.old)) }
@@ -353,7 +338,6 @@ impl<'a, 'w, T: InnerNode, S: 'a, W: 'w + DemangleWrite> Context<'a, 'w, T, S, W
     }
 
     /// Sets the waiting items aside.
-    #[tactic(auto, unfolding(crate::specs::View::view))]
     pub fn barrier(&mut self) -> InnerBarrier
         ensures after { view T.tree W.seen self.new ≡ with_items set_aside (view T.tree W.seen self.old) }
         ensures before { result ≡ length (view T.tree W.seen self.old).items.aside }
@@ -362,7 +346,6 @@ impl<'a, 'w, T: InnerNode, S: 'a, W: 'w + DemangleWrite> Context<'a, 'w, T, S, W
     }
 
     /// Lets the items wait again that the last barrier set aside; those that wait now are dropped.
-    #[tactic(auto, unfolding(crate::specs::View::view))]
     pub fn restore(&mut self, saved: InnerBarrier)
         ensures { view T.tree W.seen self.new
             ≡ with_items (brought_back saved) (view T.tree W.seen self.old) }
@@ -371,7 +354,6 @@ impl<'a, 'w, T: InnerNode, S: 'a, W: 'w + DemangleWrite> Context<'a, 'w, T, S, W
     }
 
     /// The table that the nodes refer to.
-    #[tactic(auto, unfolding(crate::specs::View::view))]
     pub fn subs(&self) -> &'a S
         ensures { result.now ≡ (view T.tree W.seen self.now).subs }
     {
@@ -379,7 +361,6 @@ impl<'a, 'w, T: InnerNode, S: 'a, W: 'w + DemangleWrite> Context<'a, 'w, T, S, W
     }
 
     /// The input that the nodes refer to.
-    #[tactic(auto, unfolding(crate::specs::View::view))]
     pub fn input(&self) -> &'a [u8]
         ensures { result.now ≡ (view T.tree W.seen self.now).input }
     {
@@ -387,7 +368,6 @@ impl<'a, 'w, T: InnerNode, S: 'a, W: 'w + DemangleWrite> Context<'a, 'w, T, S, W
     }
 
     /// The source name; `None` exactly where none was set.
-    #[tactic(auto, unfolding(crate::specs::View::view))]
     pub fn source_name(&self) -> Option<&'a str>
         ensures { option_map (λ x. x.now) result ≡ (view T.tree W.seen self.now).source }
     {
@@ -395,7 +375,6 @@ impl<'a, 'w, T: InnerNode, S: 'a, W: 'w + DemangleWrite> Context<'a, 'w, T, S, W
     }
 
     /// Sets the source name.
-    #[tactic(auto, unfolding(crate::specs::View::view))]
     pub fn set_source_name(&mut self, name: &'a str)
         ensures { view T.tree W.seen self.new
             ≡ record (view T.tree W.seen self.old) { source = Some name.entry.now } }
@@ -404,7 +383,6 @@ impl<'a, 'w, T: InnerNode, S: 'a, W: 'w + DemangleWrite> Context<'a, 'w, T, S, W
     }
 
     /// Tells the listener that a node begins.
-    #[tactic(auto, unfolding(crate::specs::View::view))]
     pub fn push_node(&mut self, kind: DemangleNodeType)
         ensures { Announces (view T.tree W.seen self.old) (view T.tree W.seen self.new) (begins (kind_of kind)) }
     {
@@ -412,7 +390,6 @@ impl<'a, 'w, T: InnerNode, S: 'a, W: 'w + DemangleWrite> Context<'a, 'w, T, S, W
     }
 
     /// Tells the listener that the last node that began ends.
-    #[tactic(auto, unfolding(crate::specs::View::view))]
     pub fn pop_node(&mut self)
         ensures { Announces (view T.tree W.seen self.old) (view T.tree W.seen self.new) ends }
     {

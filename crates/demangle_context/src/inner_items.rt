@@ -57,6 +57,7 @@ pub struct InnerItems<T: Copy> {
     ghost kept_room: { reserve limit ≤ vec_capacity kept },
 }
 
+#[tactic(auto, unfolding(crate::specs::ItemsOf::items_of))]
 impl<T: InnerNode> InnerItems<T> {
     ghost use Rattle.demangle_context.specs.ItemsOf.{held, items_of};
 
