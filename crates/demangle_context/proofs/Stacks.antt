@@ -1,6 +1,8 @@
 -- The items that are seen of the stacks, when these change.
 use Rattle.std.proofs.Common.{◌≡◌, ℕ, zero, suc, ◌+◌, ◌-◌, ◌<◌, ◌≤◌, ◌==◌, min, Bool, true, false, List, [], ◌∷◌, ◌++◌}
 use Rattle.std.proofs.Common.{length, take, drop, Option, Some, None, option_map, refl, sym, ◌∙◌, ap, ap₂, arith}
+use Rattle.std.proofs.Common.{⊎_elim}
+use Rattle.std.proofs.lemmas.Bool.{cases_lt}
 use Rattle.std.proofs.lemmas.List.{drop_all, length-take-le}
 use Rattle.demangle_core.specs.Core.{Core}
 use Rattle.demangle_printing.specs.State.{Held, rest, is_own_item}
@@ -118,7 +120,7 @@ put_back_all (suc n) zero (k ∷ ks) is g h = absurd (omega (arith, h))
 put_back_all (suc n) (suc m) (k ∷ ks) is g h =
     put_back_all n m ks (k ∷ is) (let a = g in omega (arith, a)) (let a = h in omega (arith, a))
 
-pub returned_all : (n m : ℕ) (s : Items) → length s.kept ≤ n → length s.kept ≤ m → with_returned n s ≡ with_returned m s
+returned_all : (n m : ℕ) (s : Items) → length s.kept ≤ n → length s.kept ≤ m → with_returned n s ≡ with_returned m s
 returned_all n m s g h =
     ap₂ (λ y z. record s { inner = y; kept = z }) (put_back_all n m s.kept s.inner g h)
     (drop_all n s.kept g ∙ sym (drop_all m s.kept h))
@@ -161,3 +163,10 @@ pub room_above : {A : Type 0} (f : A → Held Core) (b : ℕ) (xs ks : List A) (
     length xs + length ks < room
 room_above f b xs ks l m room h e r =
     let a = length_parts f b xs h in let c = length_newest f ks in omega (arith, a, c, e, r.is)
+
+-- So many, or all where there are fewer.
+pub returned_least : (n k m : ℕ) (s : Items) → m ≡ min n k → length s.kept ≤ k → with_returned m s ≡ with_returned n s
+returned_least n k m s e h = ⊎_elim
+    (λ less. let same : m ≡ n = omega (arith, e, less) in ap (λ z. with_returned z s) same)
+    (λ more. returned_all m n s (omega (arith, e, h, more)) (omega (arith, h, more)))
+    (cases_lt n k)
