@@ -20,6 +20,7 @@ impl InnerNode for Plain {
 }
 
 /// A listener that counts its calls, fails at one of them, and at one has no memory.
+#[derive(Drop)]
 struct FaultyListener {
     calls: u64,
     fails_at: u64,
