@@ -1,7 +1,7 @@
 -- Where an item may be pushed at a level that is above those of all items, there is room for it.
-use Rattle.std.proofs.Common.{◌≡◌, ℕ, ◌+◌, ◌<◌, ◌≤◌, min, length, arith}
+use Rattle.std.proofs.Common.{◌<◌, arith}
 use Rattle.demangle_meets.proofs.Room.{stacks_suffice}
-use Rattle.demangle_context.specs.Items.{Items, HasRoom}
+use Rattle.demangle_context.specs.Items.{HasRoom}
 use Rattle.demangle_context.specs.View.{View, state_of}
 use Rattle.demangle_context.specs.Calls.{IsReadyToHold}
 

@@ -84,15 +84,15 @@ nth_above f n k i xs d h e =
     let small : k < length (map f (drop n xs)) = omega (arith, len_map, h) in
     let here : k < length (newest_first f (drop n xs)) = omega (arith, length_above f n xs, h) in
     let turned : get_or (newest_first f (drop n xs)) k (f d)
-        ≡ get_or (map f (drop n xs)) (length (map f (drop n xs)) - 1 - k) (f d) =
-      get_or-reverse (map f (drop n xs)) k (f d) small in
+    ≡ get_or (map f (drop n xs)) (length (map f (drop n xs)) - 1 - k) (f d) =
+    get_or-reverse (map f (drop n xs)) k (f d) small in
     let place : n + (length (map f (drop n xs)) - 1 - k) ≡ i = omega (arith, len_map, h, e) in
     let inside : length (map f (drop n xs)) - 1 - k < length (drop n xs) = omega (arith, len_map, len, h) in
     let mapped : get_or (map f (drop n xs)) (length (map f (drop n xs)) - 1 - k) (f d)
-        ≡ f (get_or (drop n xs) (length (map f (drop n xs)) - 1 - k) d) =
-      get_or-map f (drop n xs) (length (map f (drop n xs)) - 1 - k) d (f d) inside in
+    ≡ f (get_or (drop n xs) (length (map f (drop n xs)) - 1 - k) d) =
+    get_or-map f (drop n xs) (length (map f (drop n xs)) - 1 - k) d (f d) inside in
     let dropped : get_or (drop n xs) (length (map f (drop n xs)) - 1 - k) d
-        ≡ get_or xs (n + (length (map f (drop n xs)) - 1 - k)) d =
-      get_or-drop n xs (length (map f (drop n xs)) - 1 - k) d in
+    ≡ get_or xs (n + (length (map f (drop n xs)) - 1 - k)) d =
+    get_or-drop n xs (length (map f (drop n xs)) - 1 - k) d in
     nth_there k (newest_first f (drop n xs)) (f d) here
     ∙ ap Some (turned ∙ (mapped ∙ ap f (dropped ∙ ap (λ z. get_or xs z d) place)))

@@ -1,5 +1,5 @@
 -- The items that are seen of the stacks, when these change.
-use Rattle.std.proofs.Common.{◌≡◌, ℕ, zero, suc, ◌+◌, ◌-◌, ◌<◌, ◌≤◌, ◌==◌, min, Bool, true, false, List, [], ◌∷◌, ◌++◌}
+use Rattle.std.proofs.Common.{◌≡◌, ℕ, zero, suc, ◌+◌, ◌-◌, ◌<◌, ◌≤◌, ◌==◌, min, false, List, [], ◌∷◌, ◌++◌}
 use Rattle.std.proofs.Common.{length, take, drop, Option, Some, None, option_map, refl, sym, ◌∙◌, ap, ap₂, arith}
 use Rattle.std.proofs.Common.{⊎_elim}
 use Rattle.std.proofs.lemmas.Bool.{cases_lt}
@@ -22,7 +22,7 @@ pub stack_pushed : {A : Type 0} (f : A → Held Core) (b : ℕ) (xs ys ks : List
 stack_pushed f b xs ys ks l m x h e =
     ap (λ z. stacked f b z ks l m) e
     ∙ ap₂ (λ y z. record (stacked f b xs ks l m) { inner = y; aside = z }) (above_pushed f b xs x h)
-      (below_pushed f b xs x h)
+    (below_pushed f b xs x h)
 
 pub stack_popped : {A : Type 0} (f : A → Held Core) (b : ℕ) (xs ys ks : List A) (l m : ℕ) (x : A) → b ≤ length ys →
     xs ≡ ys ++ x ∷ [] →
@@ -79,7 +79,7 @@ stack_kept f b xs ks js l m x new top e after =
     after
     ∙ (ap (λ z. without_top (stacked f b xs z l m)) e
     ∙ (ap (λ z. record (stacked f b xs ks l m) { inner = rest (newest_first f (drop b xs)); kept = z })
-      (newest_pushed f ks x)
+    (newest_pushed f ks x)
     ∙ sym (first_kept (stacked f b xs ks l m) (newest_first f (drop b xs)) (f x) top)))
 
 -- ---- items that are returned
@@ -133,7 +133,7 @@ pub stack_returned : {A : Type 0} (f : A → Held Core) (b : ℕ) (xs ys ks js :
 stack_returned f b xs ys ks js l m x h e g =
     stack_pushed f b xs ys js l m x h g
     ∙ sym (ap (λ z. with_returned 1 (record (stacked f b xs ks l m) { kept = z }))
-      (ap (newest_first f) e ∙ newest_pushed f js x))
+    (ap (newest_first f) e ∙ newest_pushed f js x))
 
 -- ---- the base moves
 pub stack_aside : {A : Type 0} (f : A → Held Core) (b n : ℕ) (xs ks : List A) (l m : ℕ) → n ≡ length xs →
@@ -150,11 +150,11 @@ stack_restored f b before n xs ys ks l m h e g =
     let count : length (newest_first f (take b xs)) ≡ b = length_below f b xs h in
     let same : length (take b xs) ≡ b = length-take-le b xs h in
     let left : length (take b xs) - n ≡ length (newest_first f (take b xs)) - before =
-        omega (arith, count, same, g) in
+    omega (arith, count, same, g) in
     ap (λ z. stacked f n z ks l m) e
     ∙ ap₂ (λ y z. record (stacked f b xs ks l m) { inner = y; aside = z })
-      (above_lower f n (length (newest_first f (take b xs)) - before) (take b xs) left)
-      (below_lower f n (length (newest_first f (take b xs)) - before) (take b xs) left)
+    (above_lower f n (length (newest_first f (take b xs)) - before) (take b xs) left)
+    (below_lower f n (length (newest_first f (take b xs)) - before) (take b xs) left)
 
 -- ---- room
 pub room_above : {A : Type 0} (f : A → Held Core) (b : ℕ) (xs ks : List A) (l m room : ℕ) → b ≤ length xs →

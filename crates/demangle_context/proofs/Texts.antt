@@ -1,11 +1,11 @@
 -- Writing a text: each of its ends.
-use Rattle.std.proofs.Common.{◌≡◌, ℕ, ◌-◌, ◌<◌, ◌↔◌, Bool, true, false, List, [], ◌∷◌, length, Option, Some, None, refl}
-use Rattle.std.proofs.Common.{sym, ◌∙◌, ap, subst, arith, le-leb, Result, Ok, Err, nat_le}
-use Rattle.demangle_printing.specs.State.{State, has_room, less_room, wrote, last_of}
+use Rattle.std.proofs.Common.{◌≡◌, ℕ, ◌-◌, ◌<◌, Bool, true, false, List, [], ◌∷◌, length, Option, Some, None, refl}
+use Rattle.std.proofs.Common.{sym, ◌∙◌, ap, subst, arith, le-leb, Result, Ok, Err}
+use Rattle.demangle_printing.specs.State.{has_room, less_room}
 use Rattle.demangle_context.specs.Seen.{Seen, piece, Hears, HearsText, Refuses}
 use Rattle.demangle_context.specs.Errors.{error_of}
-use Rattle.demangle_context.specs.View.{View, last_byte, state_of}
-use Rattle.demangle_context.specs.Calls.{EndsIn, LastChar, Writes, WritesNothing, Writing}
+use Rattle.demangle_context.specs.View.{View, state_of}
+use Rattle.demangle_context.specs.Calls.{LastChar, Writing}
 use Rattle.demangle_context.specs.declared.error.SinkFault.{SinkFault}
 use Rattle.demangle_context.specs.declared.error.SinkFault.TheVariants as fault
 use Rattle.demangle_context.specs.declared.error.DemangleError.{DemangleError}
@@ -62,7 +62,7 @@ writes_all {S} {a} {b} s h room heard last others =
       written = record {
         state = ap state_of others
             ∙ ap (λ z. record (state_of a) { last = z; room = less_room a.room (length s) })
-              (last_in_text a.last_char b.last_char s last);
+            (last_in_text a.last_char b.last_char s last);
         last_char = last;
         heard = hears_text s h heard;
         others = others;

@@ -25,21 +25,21 @@ impl Model for DemangleOptions {
     ghost Value = { Options };
 
     ghost view = { λ o. record {
-        limit = o.limit;
-        no_params = o.no_params;
-        no_return_type = o.no_return_type;
-        hide_expression_literal_types = o.hide_expression_literal_types;
-        output_limit = o.output_limit;
+      limit = o.limit;
+      no_params = o.no_params;
+      no_return_type = o.no_return_type;
+      hide_expression_literal_types = o.hide_expression_literal_types;
+      output_limit = o.output_limit;
     } };
 
     ghost invariant = { λ o. 0 < o.limit };
 
     ghost inverse = { λ o. record {
-        limit = o.limit;
-        no_params = o.no_params;
-        no_return_type = o.no_return_type;
-        hide_expression_literal_types = o.hide_expression_literal_types;
-        output_limit = o.output_limit;
+      limit = o.limit;
+      no_params = o.no_params;
+      no_return_type = o.no_return_type;
+      hide_expression_literal_types = o.hide_expression_literal_types;
+      output_limit = o.output_limit;
     } };
 }
 
@@ -132,8 +132,7 @@ impl DemangleOptions {
         ensures exactly { IsTrue result ↔ (self.now ≡ default_options) }
     {
         let limits = self.limit == DEFAULT_RECURSION_LIMIT && self.output_limit.is_none();
-        let left_out =
-            self.no_params || self.no_return_type || self.hide_expression_literal_types;
+        let left_out = self.no_params || self.no_return_type || self.hide_expression_literal_types;
         limits && !left_out
     }
 

@@ -4,8 +4,8 @@ ghost use Rattle.std.specs.Prelude.{None, pos};
 ghost use Rattle.demangle_core.specs.Core.{number, end};
 
 use crate::{
-    Context, DemangleError, DemangleNodeType, DemangleOptions, DemangleWrite, InnerItems, InnerNode,
-    SinkFault, TextSink,
+    Context, DemangleError, DemangleNodeType, DemangleOptions, DemangleWrite, InnerItems,
+    InnerNode, SinkFault, TextSink,
 };
 use demangle_text::Error;
 use std::alloc::{AllocError, AllocFailed, Global};
@@ -138,7 +138,11 @@ fn refusals_of_the_listener_are_told(rt: HostRuntime) -> Result<(), Fail> {
 #[test]
 fn levels_end_at_the_limit(rt: HostRuntime) -> Result<(), Fail> {
     let mut sink = TextSink::new(rt.alloc());
-    let mut ctx = context(rt.alloc(), DemangleOptions::new().recursion_limit(2), &mut sink)?;
+    let mut ctx = context(
+        rt.alloc(),
+        DemangleOptions::new().recursion_limit(2),
+        &mut sink,
+    )?;
     assert_eq!(rt; ctx.enter(), Ok(()));
     assert_eq!(rt; ctx.enter(), Err(DemangleError::TooMuchRecursion));
     assert_eq!(rt; ctx.recursion_level(), 1);

@@ -43,10 +43,10 @@ impl TextSink {
 
 impl DemangleWrite for TextSink {
     ghost seen = { λ s. record {
-        text = Some (string_bytes s.text);
-        calls = None;
-        faults = 0;
-        refusals = s.refusals;
+      text = Some (string_bytes s.text);
+      calls = None;
+      faults = 0;
+      refusals = s.refusals;
     } };
 
     fn push_demangle_node(&mut self, _kind: DemangleNodeType) {}

@@ -13,5 +13,5 @@ pub returns-clause-before : goal.returns-clause-before
 unfolding items_of
 returns-clause-before g c =
     let h : c.args.self.now.base ≤ length c.args.self.now.items.items =
-        omega (arith, c.args.self.now.within, c.args.self.now.items.ok.0) in
+    omega (arith, c.args.self.now.within, c.args.self.now.items.ok.0) in
     sym (length_below _ _ _ h)

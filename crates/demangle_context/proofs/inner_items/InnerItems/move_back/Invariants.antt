@@ -8,7 +8,7 @@ invariant-loop-left g l = record {
   room : vec_len l.self.items + l.left ≤ vec_capacity l.self.items;
   there : l.left ≤ vec_len l.self.kept;
   returned : with_returned l.left (items_of g.T.InnerNode.tree l.self)
-      ≡ with_returned l.count (items_of g.T.InnerNode.tree l.initial.self)
+      ≡ with_returned l.count (items_of g.T.InnerNode.tree l.initial.self);
 }
 
 abbrev pub decreases-loop-left : goal.decreases-loop-left

@@ -7,6 +7,6 @@ pub returns-clause-returned : goal.returns-clause-returned
 unfolding items_of
 returns-clause-returned g c =
     let h : c.args.self.now.base ≤ length c.args.self.now.items.items =
-        omega (arith, c.args.self.now.within, c.args.self.now.items.ok.0) in
+    omega (arith, c.args.self.now.within, c.args.self.now.items.ok.0) in
     stack_returned _ _ _ _ c.args.self.now.kept.items _ _ _ _ h c.take_last-top.ensures.items
     c.push_reserved.ensures.items
