@@ -1,0 +1,9 @@
+pub mod Options
+pub mod Errors
+pub mod Kinds
+pub mod Seen
+pub mod Room
+pub mod Items
+pub mod ItemsOf
+pub mod View
+pub mod Calls
