@@ -3,11 +3,10 @@
 
 mod call;
 pub mod error;
-mod options;
 mod symbol;
 #[cfg(test)]
 mod tests;
 
+pub use demangle_context::{DemangleNodeType, DemangleOptions, DemangleWrite, TextSink};
 pub use demangle_text::ParseOptions;
-pub use options::DemangleOptions;
 pub use symbol::{SymbolFault, demangle_symbol};

@@ -4,7 +4,7 @@ ghost use Rattle.std.specs.Prelude.{◌≡◌, Some, None, IfOk, IsErrOf, string
 ghost use Rattle.cpp_demangle.specs.Answer.{text_under};
 
 use crate::call::call_text;
-use crate::options::DemangleOptions;
+use demangle_context::DemangleOptions;
 use demangle_text::ParseOptions;
 use std::alloc::Global;
 
@@ -34,7 +34,7 @@ pub fn demangle_symbol(
     if parse.limit() != ParseOptions::default().limit() {
         return Err(SymbolFault::NotBuilt);
     }
-    if print.limit() != DemangleOptions::default().limit() {
+    if !print.is_default() {
         return Err(SymbolFault::NotBuilt);
     }
     match call_text(alloc, bytes) {

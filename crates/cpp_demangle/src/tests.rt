@@ -1,8 +1,7 @@
 //! Names and their texts from outside, and that each call is met by some input.
 
-use crate::error::SinkFault;
 use crate::{DemangleOptions, ParseOptions, SymbolFault, demangle_symbol};
-use std::alloc::{AllocError, AllocFailed, Global};
+use std::alloc::Global;
 
 /// Plain functions' names, and their texts: each builtin type of one letter, in the ABI's order (section 5.1.5.2), and
 /// names of several.
@@ -131,12 +130,15 @@ fn another_limit_is_not_built(rt: HostRuntime) {
 }
 
 #[test]
-fn want_of_memory_is_a_sink_s_fault(rt: HostRuntime) {
-    assert_eq!(rt; SinkFault::from(AllocError), SinkFault::OutOfMemory);
-    assert_eq!(rt;
-        SinkFault::from(AllocFailed { value: 1u8 }),
-        SinkFault::OutOfMemory
-    );
-    assert_ne!(rt; SinkFault::Failed, SinkFault::OutOfMemory);
+fn another_option_is_not_built(rt: HostRuntime) {
+    let parse = ParseOptions::default();
+    for (print, text) in [
+        (DemangleOptions::new(), Some("f()")),
+        (DemangleOptions::new().no_params(), None),
+        (DemangleOptions::new().output_limit(3), None),
+    ] {
+        let answer = demangle_symbol(rt.alloc(), b"_Z1fv", &parse, &print);
+        assert_eq!(rt; answer.as_ref().ok().map(|text| text.as_str()), text);
+    }
     assert_ne!(rt; SymbolFault::NotBuilt, SymbolFault::OutOfMemory);
 }

@@ -6,8 +6,8 @@ use Rattle.std.specs.Prelude.{Option}
 use Rattle.std.specs.Io.KnownBytes.{Appends, Keeps}
 use Rattle.std.proofs.KnownBytes.{Appends-nil, Appends-trans, Appends-kept}
 use Rattle.std.specs.Result.{IsErrAnd}
-use Rattle.cpp_demangle.specs.declared.error.SinkFault.{SinkFault}
-use Rattle.cpp_demangle.specs.declared.error.SinkFault.TheVariants as fault
+use Rattle.demangle_context.specs.declared.error.SinkFault.{SinkFault}
+use Rattle.demangle_context.specs.declared.error.SinkFault.TheVariants as fault
 use Rattle.cppfilt_run.specs.Causes.{SinkCause}
 use Rattle.cppfilt_run.specs.Moves.{Moves, Begins, Gives}
 

@@ -8,8 +8,8 @@ use Rattle.std.proofs.lemmas.Bool.{cases_lt}
 use Rattle.std.proofs.lemmas.List.{append_cancel_right}
 use Rattle.std.proofs.Math.Seq.{take-append_seam}
 use Rattle.std.proofs.KnownBytes.{Appends-nil, Appends-trans, Consumes-nil, Consumes-trans, Consumes-kept}
-use Rattle.cpp_demangle.specs.declared.error.SinkFault.{SinkFault}
-use Rattle.cpp_demangle.specs.declared.error.SinkFault.TheVariants as fault
+use Rattle.demangle_context.specs.declared.error.SinkFault.{SinkFault}
+use Rattle.demangle_context.specs.declared.error.SinkFault.TheVariants as fault
 use Rattle.demangle_grammar.specs.Lines.{due, due_so_far, complete, unfinished}
 use Rattle.demangle_grammar.proofs.LineLaws.{due-parts, so_far-short, so_far-long, so_far-nil, unfinished-nil}
 use Rattle.cppfilt_run.specs.Causes.{Rose, SinkCause}

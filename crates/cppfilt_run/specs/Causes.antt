@@ -1,8 +1,8 @@
 -- Counts of faults, and what an answer says of them.
 use Rattle.std.specs.Prelude.{◌≡◌, ℕ, ◌+◌, ◌-◌, ◌^◌, ◌<◌, ◌≤◌, min, Result, Ok, Err}
 use Rattle.cppfilt_run.specs.declared.ends.Failed.{Failed}
-use Rattle.cpp_demangle.specs.declared.error.SinkFault.{SinkFault}
-use Rattle.cpp_demangle.specs.declared.error.SinkFault.TheVariants as fault
+use Rattle.demangle_context.specs.declared.error.SinkFault.{SinkFault}
+use Rattle.demangle_context.specs.declared.error.SinkFault.TheVariants as fault
 
 -- a count has risen, or stands at its last value
 abbrev pub Rose : ℕ → ℕ → Type 0

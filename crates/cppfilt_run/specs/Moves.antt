@@ -1,7 +1,7 @@
 -- What a sink was given of bytes that are due.
 use Rattle.std.specs.Prelude.{◌≡◌, ℕ, List, ◌++◌, Option, Result, Ok, Err}
 use Rattle.std.specs.Io.KnownBytes.{Appends}
-use Rattle.cpp_demangle.specs.declared.error.SinkFault.{SinkFault}
+use Rattle.demangle_context.specs.declared.error.SinkFault.{SinkFault}
 use Rattle.cppfilt_run.specs.Causes.{SinkCause}
 
 -- The sink was given the front of `before`, and `after` is still due.

@@ -1,6 +1,6 @@
 -- The status of a sink's refusal.
-use Rattle.cpp_demangle.specs.declared.error.SinkFault.{SinkFault}
-use Rattle.cpp_demangle.specs.declared.error.SinkFault.TheVariants as fault
+use Rattle.demangle_context.specs.declared.error.SinkFault.{SinkFault}
+use Rattle.demangle_context.specs.declared.error.SinkFault.TheVariants as fault
 use Rattle.cppfilt_run.specs.declared.status.Status.{Status}
 use Rattle.cppfilt_run.specs.declared.status.Status.TheVariants.{WriteFault, OutOfMemory}
 

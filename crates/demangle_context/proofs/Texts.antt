@@ -1,5 +1,5 @@
 -- A text is written whole.
-use Rattle.std.proofs.Common.{◌≡◌, ℕ, ◌<◌, Bool, true, false, List, [], ◌∷◌, length, refl, sym, ◌∙◌, ap, arith}
+use Rattle.std.proofs.Common.{◌≡◌, ℕ, ◌<◌, Bool, true, false, List, [], ◌∷◌, length, sym, ◌∙◌, ap, arith}
 use Rattle.std.proofs.Common.{Result, Ok, Err}
 use Rattle.demangle_printing.specs.State.{has_room, less_room}
 use Rattle.demangle_context.specs.Seen.{Seen, piece, Hears, HearsText}
