@@ -1,0 +1,3 @@
+pub mod ScopeOf
+pub mod OneEntry
+pub mod ItemTree
