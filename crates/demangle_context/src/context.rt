@@ -40,7 +40,7 @@ pub struct DemangleFlags {
 }
 
 /// A printing: the table and the input that the nodes refer to, the listener, and the state. It lives no longer than
-/// the nodes, and no longer than the listener.
+/// the nodes, and no longer than the listener. The original's `DemangleContext`, for any type of inner items.
 pub struct Context<'a, 'w, T: Copy, S: 'a, W: 'w> {
     items: InnerItems<T>,
     subs: &'a S,

@@ -6,7 +6,7 @@ ghost use Rattle.demangle_context.specs.Seen.{Seen, piece, begins, ends, Hears, 
 
 use crate::error::SinkFault;
 
-/// The nodes of a name of which a listener is told where they begin and end.
+/// The nodes of a name of which a listener is told where they begin and end. The original's type of this name.
 #[derive(Clone, Copy, Debug, PartialEq, Eq, PartialOrd, Ord, Hash)]
 pub enum DemangleNodeType {
     /// A prefix of a nested name, ABI section 5.1.2, `<prefix>`.
@@ -31,7 +31,7 @@ pub enum DemangleNodeType {
 
 /// A listener, or sink: it is told the text in pieces, and where nodes begin and end. It may tell what it was told: the
 /// text, the calls, either or none. It counts how often it failed and how often it had no memory; both counts stand
-/// still at their last value, 2^64 - 1.
+/// still at their last value, 2^64 - 1. The original's trait of this name, with refusals that tell their cause.
 pub trait DemangleWrite {
     ghost seen: { Self → Seen };
 

@@ -8,7 +8,8 @@ use std::marker::Model;
 /// The limit on levels where none was set.
 const DEFAULT_RECURSION_LIMIT: u32 = 128;
 
-/// How a tree is printed. In a contract it is the record of its options.
+/// How a tree is printed. In a contract it is the record of its options. The original's type of this name; the limit on
+/// the text and `is_default` are additions.
 #[derive(Clone, Copy, Debug)]
 pub struct DemangleOptions {
     limit: u32,

@@ -6,7 +6,8 @@ use crate::error::SinkFault;
 use crate::listener::{DemangleNodeType, DemangleWrite};
 use std::alloc::Global;
 
-/// A listener that keeps the text, and nothing of the nodes. It fails for no cause but memory.
+/// A listener that keeps the text, and nothing of the nodes. It fails for no cause but memory. The original writes to
+/// any `fmt::Write` in its place.
 #[derive(Drop)]
 pub struct TextSink {
     text: String,
