@@ -14,6 +14,7 @@ mod read_leaf;
 mod readers;
 mod words;
 
+pub use bytes::{digit_at, optional_word};
 pub use context::ParseContext;
 pub use depth::{Depth, hidden};
 pub use lists::{abi_tags, clone_suffix};

@@ -1,0 +1,5 @@
+use Rattle.std.proofs.Common.{vec_len}
+use Rattle.demangle_answers.proofs.discard.VecDiscard.discard.Given as goal
+
+abbrev pub decreases-loop-x : goal.decreases-loop-x
+decreases-loop-x g l = vec_len l.list
