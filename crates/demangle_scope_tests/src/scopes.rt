@@ -59,6 +59,13 @@ fn is_error(found: Result<Option<TypeHandle>>, wanted: Error) -> bool {
     }
 }
 
+fn has_no_leaf(scope: &Option<ArgScopeStack<'_, '_>>) -> bool {
+    match scope_leaf_name(scope) {
+        Ok(_) => false,
+        Err(error) => error == Error::BadLeafNameReference,
+    }
+}
+
 // A list that is being printed, at its second member: its first member may be meant.
 fn own_mark_is_met(list: &TemplateArgs, _other: &TemplateArgs) -> bool {
     let nothing = None;
@@ -124,6 +131,6 @@ fn the_newest_entry_answers(rt: HostRuntime) {
 
 #[test]
 fn nothing_is_found_in_no_scope(rt: HostRuntime) {
-    assert!(rt; scope_leaf_name(&None).is_err_and(|error| error == Error::BadLeafNameReference));
+    assert!(rt; has_no_leaf(&None));
     assert!(rt; is_error(type_at(&None, 0), Error::BadTemplateArgReference));
 }
