@@ -1,6 +1,7 @@
 -- The row of a template argument is its parts.
 use Rattle.std.specs.Prelude.{codes, not, if◌then◌else◌}
-use Rattle.std.proofs.Common.{◌≡◌, refl, ap, subst, ◌∙◌, ℕ, zero, suc, Bool, true, false, List, [], ◌∷◌, Result, Ok, Err}
+use Rattle.std.proofs.Common.{◌≡◌, refl, ap, subst, ◌∙◌, ℕ, zero, suc, Bool, true, false, List, [], ◌∷◌}
+use Rattle.std.proofs.Common.{Result, Ok, Err}
 use Rattle.std.proofs.Math.Path.{fun_ext}
 use Rattle.demangle_core.specs.Core.{Core, Tag, node, end}
 use Rattle.demangle_core.specs.Table.{Table, sizes, cut}
@@ -15,7 +16,8 @@ use Rattle.demangle_grammar.specs.Code.{at, Go, Here, here, Out, Yes, No, close,
 use Rattle.demangle_grammar.specs.Code.{all_at, cread}
 use Rattle.demangle_grammar.specs.Parts.{alone}
 use Rattle.demangle_grammar.proofs.CodeParts.{and_yes}
-use Rattle.demangle_forms.specs.ArgForms.{either, pack_mark_at, pack_list_at, pack_closed, pack_at, template_arg_at}
+use Rattle.demangle_forms.specs.WordForms.{either}
+use Rattle.demangle_forms.specs.ArgForms.{pack_mark_at, pack_list_at, pack_closed, pack_at, template_arg_at}
 use Rattle.demangle_forms.specs.ArgForms.{template_arg_row}
 use Rattle.demangle_forms.proofs.Alternatives.{or_last}
 use Rattle.demangle_forms.proofs.Lasting.{all_next}

@@ -1,7 +1,14 @@
 pub mod Alternatives
+pub mod WordLaws
 pub mod Lasting
 pub mod Loops
 pub mod Turns
 pub mod TypeLaws
+pub mod BuiltinLaws
 pub mod ArgLaws
 pub mod NameLaws
+pub mod UnqualifiedLaws
+pub mod SpecialLaws
+pub mod MangledLaws
+pub mod ExpressionLaws
+pub mod UnresolvedLaws

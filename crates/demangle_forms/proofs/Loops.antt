@@ -116,7 +116,8 @@ expression_takes f c p q e g t k = row_takes f Row.expression c p q e g t refl k
 
 pub levels_again : {A : Type 0} (f : ℕ) (c : Bool) (p q : Spot) (e g : Table) (t : A → Tag) (n : A → Core)
     (xs ys : List A) (x : A)
-    → cread f Row.unresolved_qualifier_level c (here p e) [] ≡ Found (node (t x) (n x) end) (here q g) → ys ≡ xs ++ x ∷ []
+    → cread f Row.unresolved_qualifier_level c (here p e) [] ≡ Found (node (t x) (n x) end) (here q g)
+    → ys ≡ xs ++ x ∷ []
     → rows_at (cread f) c Row.unresolved_qualifier_level (here p e) (listed t n xs)
     ≡ rows_at (cread f) c Row.unresolved_qualifier_level (here q g) (listed t n ys)
 unfolding takes_in rule

@@ -116,7 +116,8 @@ module _ (go : Go) (c : Bool) (s : Here) (acc : List Core) where
   by_turn Turn.name = refl
   by_turn Turn.none = refl
 
-  turn_is : close (turn_with (next_is (these "STD") s.spot.left)) ≡ turn_by (turn_at (joined acc) s.spot.left) go c s acc
+  turn_is : close (turn_with (next_is (these "STD") s.spot.left))
+      ≡ turn_by (turn_at (joined acc) s.spot.left) go c s acc
   unfolding turn_at
   turn_is =
       let bs = s.spot.left in
@@ -146,7 +147,8 @@ m_starts (b ∷ bs) = by (77 == b)
     by false = refl
 
 m_or_not : (z : Bool) (n : ℕ) (p : Spot) (s : Here) (acc : List Core) (j : Kind)
-    → or_else (read_spot (if z then Ok (skip n p) else Err j) (λ q. Yes (at s q) acc)) (λ u. where_so (not z) (Yes s acc))
+    → or_else (read_spot (if z then Ok (skip n p) else Err j) (λ q. Yes (at s q) acc))
+    (λ u. where_so (not z) (Yes s acc))
     ≡ Yes (if z then at s (skip n p) else s) acc
 m_or_not true n p s acc j = refl
 m_or_not false n p s acc j = refl

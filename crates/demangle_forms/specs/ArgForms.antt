@@ -1,5 +1,5 @@
 -- The row of a template argument (ABI section 5.1.2, <template-arg>) in the parts that functions read.
-use Rattle.std.specs.Prelude.{ℕ, zero, suc, Bool, List, [], ◌∷◌, codes, Result, Ok, Err, if◌then◌else◌}
+use Rattle.std.specs.Prelude.{ℕ, zero, suc, Bool, List, [], ◌∷◌, codes, Result, if◌then◌else◌}
 use Rattle.demangle_core.specs.Core.{Core, Tag, node, end}
 use Rattle.demangle_text.specs.Kind.{Kind, Deep}
 use Rattle.demangle_text.specs.Spot.{Spot}
@@ -10,11 +10,7 @@ use Rattle.demangle_grammar.specs.Reading.{next_is}
 use Rattle.demangle_grammar.specs.Code.{joined, at, Go, Here, Reply, Refused, Out, Yes, close, and_then, read_spot}
 use Rattle.demangle_grammar.specs.Code.{all_at, cread}
 use Rattle.demangle_grammar.specs.Parts.{alone, else_row}
-
--- one word or else another
-abbrev pub either : Result Spot Kind → Result Spot Kind → Result Spot Kind
-either (Ok p) o = Ok p
-either (Err k) o = o
+use Rattle.demangle_forms.specs.WordForms.{either}
 
 -- the word before a pack: J, or I
 unfoldable pub pack_mark_at : Spot → Result Spot Kind

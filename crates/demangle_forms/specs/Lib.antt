@@ -1,3 +1,10 @@
+pub mod WordForms
 pub mod TypeForms
+pub mod BuiltinForms
 pub mod ArgForms
 pub mod NameForms
+pub mod UnqualifiedForms
+pub mod SpecialForms
+pub mod MangledForms
+pub mod ExpressionForms
+pub mod UnresolvedForms

@@ -1,0 +1,2 @@
+pub mod ListEnds
+pub mod RowsRead

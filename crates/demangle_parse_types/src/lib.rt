@@ -1,0 +1,25 @@
+//! The rows of types and template arguments (ABI sections 5.1.2, 5.1.5 and 5.1.6), over the rows that they lead back
+//! to.
+//!
+//! A function a row, or a part of one. What a row reads again at fewer levels it calls through `below`.
+#![tactic(auto)]
+
+mod arguments;
+mod array_types;
+mod boxes;
+mod builtin;
+mod class_types;
+mod function_types;
+mod literals;
+mod template_params;
+mod types;
+
+pub use arguments::{all_arguments, optional_template_args, template_arg_by, template_args};
+pub use array_types::{array_type, pointer_to_member_type, vector_type};
+pub use boxes::{boxed_encoding, boxed_expression, boxed_mangled_name, boxed_name};
+pub use builtin::{builtin_type, parametric_builtin_type};
+pub use class_types::{class_enum_type, decltype};
+pub use function_types::{bare_function_type, exception_spec, function_type, type_list};
+pub use literals::expr_primary;
+pub use template_params::template_template_param_handle;
+pub use types::type_handle_by;

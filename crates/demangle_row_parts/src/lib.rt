@@ -1,0 +1,28 @@
+//! The parts of rows that call no recursive row: words before types and names, qualifiers, turns of prefixes, numbers,
+//! and what is made of a prefix or of the parts of a name.
+#![tactic(auto)]
+
+mod bytes;
+mod constructors;
+mod handles;
+mod members;
+mod nested_names;
+mod operators;
+mod optional;
+mod qualifiers;
+mod turns;
+mod type_marks;
+
+pub use bytes::{pack_mark, same_length, up_to_e};
+pub use constructors::{Constructor, Destructor, constructor_word, destructor_word};
+pub use demangle_leaf_rows::{digit_at, optional_word};
+pub use handles::{
+    prefix_of, template_name_of, template_template_param_of, type_of, unresolved_type_of,
+};
+pub use members::{member_prefix, relative};
+pub use nested_names::{NestedQualifiers, nested_qualifiers, take_over};
+pub use operators::{behind_on, operand_count};
+pub use optional::{data_member_prefix, optional_discriminator, optional_number};
+pub use qualifiers::{optional_ref_qualifier, some_cv_qualifiers};
+pub use turns::{Turn, first_turn, next_turn, no_prefix};
+pub use type_marks::{TypeMark, type_mark};

@@ -1,0 +1,131 @@
+//! What a turn of a prefix begins with, ABI section 5.1.2, <prefix>.
+
+ghost use Rattle.std.specs.Prelude.{◌≡◌};
+ghost use Rattle.demangle_text.specs.Kind.{kind};
+ghost use Rattle.demangle_text.specs.Spot.{spot};
+ghost use Rattle.demangle_grammar.specs.Reading.{is_numbered, is_one_of};
+ghost use Rattle.demangle_leaf_nodes.specs.TreeLeaves.{tree_of_prefix_handle};
+ghost use Rattle.demangle_forms.specs.NameForms.{first_turn_at, is_name_first, names_next, no_prefix_kind, turn_at};
+ghost use Rattle.demangle_row_parts.specs.Words.{form_of_turn};
+
+use demangle_answers::next_is;
+use demangle_leaf_nodes::PrefixHandle;
+use demangle_text::{Error, IndexStr};
+
+/// What a turn of a prefix begins with.
+#[derive(Clone, Copy, Debug)]
+pub enum Turn {
+    /// A substitution, which replaces the prefix so far: `S`.
+    Substitution,
+    /// A template parameter, which replaces it: `T`.
+    Parameter,
+    /// `decltype`, which replaces it, or the name of a destructor: `D`.
+    Decltype,
+    /// Template arguments behind a numbered prefix: `I`.
+    Template,
+    /// A name.
+    Name,
+    /// No turn begins here.
+    None,
+}
+
+/// Whether the byte is one of these.
+fn is_one_of(bytes: &[u8], byte: u8) -> bool
+    ensures { result ≡ is_one_of bytes.now byte }
+{
+    for other in bytes {
+        if *other == byte {
+            return true;
+        }
+    }
+    false
+}
+
+/// Whether a name in a prefix begins with the byte.
+fn is_name_first(byte: u8) -> bool
+    ensures { result ≡ is_name_first byte }
+{
+    let found = is_one_of(b"LCU0123456789nadpcomrelsgiqv", byte);
+    found
+}
+
+/// Whether a name in a prefix begins here.
+fn next_is_name<'b>(input: IndexStr<'b>) -> bool
+    ensures { result ≡ names_next (spot input.entry).left }
+{
+    match input.as_slice() {
+        [] => false,
+        [next, ..] => is_name_first(*next),
+    }
+}
+
+/// Whether template arguments may follow: behind a well-known or a numbered component.
+fn is_numbered(prefix: PrefixHandle) -> bool
+    ensures { result ≡ is_numbered (tree_of_prefix_handle prefix) }
+{
+    match prefix {
+        PrefixHandle::WellKnown(_) => true,
+        PrefixHandle::BackReference(_) => true,
+        PrefixHandle::NonSubstitution(_) => false,
+    }
+}
+
+/// What the next turn behind this prefix begins with.
+#[tactic(auto, unfolding(demangle_forms::specs::NameForms::turn_at))]
+pub fn next_turn<'b>(prefix: PrefixHandle, input: IndexStr<'b>) -> Turn
+    ensures { form_of_turn result ≡ turn_at (tree_of_prefix_handle prefix) (spot input.entry).left }
+{
+    if next_is(b'S', input) {
+        return Turn::Substitution;
+    }
+    if next_is(b'T', input) {
+        return Turn::Parameter;
+    }
+    if next_is(b'D', input) {
+        return Turn::Decltype;
+    }
+    if next_is(b'I', input) && is_numbered(prefix) {
+        return Turn::Template;
+    }
+    if next_is_name(input) {
+        return Turn::Name;
+    }
+    Turn::None
+}
+
+/// What the first turn begins with, which is no `Template`: no prefix begins with arguments.
+#[tactic(auto, unfolding(demangle_forms::specs::NameForms::first_turn_at))]
+pub fn first_turn<'b>(input: IndexStr<'b>) -> Turn
+    ensures { form_of_turn result ≡ first_turn_at (spot input.entry).left }
+{
+    if next_is(b'S', input) {
+        return Turn::Substitution;
+    }
+    if next_is(b'T', input) {
+        return Turn::Parameter;
+    }
+    if next_is(b'D', input) {
+        return Turn::Decltype;
+    }
+    if next_is_name(input) {
+        return Turn::Name;
+    }
+    Turn::None
+}
+
+/// Why no prefix begins here: `UnexpectedEnd` where the bytes or the nested name end, else `UnexpectedText`.
+#[tactic(auto, unfolding(demangle_forms::specs::NameForms::no_prefix_kind))]
+pub fn no_prefix<'b>(input: IndexStr<'b>) -> Error
+    ensures { kind result ≡ no_prefix_kind (spot input.entry).left }
+{
+    match input.as_slice() {
+        [] => Error::UnexpectedEnd,
+        [_, ..] => {
+            if next_is(b'E', input) {
+                Error::UnexpectedEnd
+            } else {
+                Error::UnexpectedText
+            }
+        }
+    }
+}
