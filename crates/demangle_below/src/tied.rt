@@ -29,23 +29,57 @@ pub struct Tied<F0, F1, F2, F3, F4, F5> {
 
 impl<F0, F1, F2, F3, F4, F5> Below for Tied<F0, F1, F2, F3, F4, F5>
 where
-    F0: for<'b> Fn(Global, Depth, &mut SubstitutionTable, IndexStr<'b>) -> Result<(TypeHandle, IndexStr<'b>)> + Copy,
-    F1: for<'b> Fn(Global, Depth, &mut SubstitutionTable, IndexStr<'b>) -> Result<(Expression, IndexStr<'b>)> + Copy,
-    F2: for<'b> Fn(Global, Depth, &mut SubstitutionTable, IndexStr<'b>) -> Result<(TemplateArg, IndexStr<'b>)> + Copy,
-    F3: for<'b> Fn(Global, Depth, &mut SubstitutionTable, IndexStr<'b>) -> Result<(Name, IndexStr<'b>)> + Copy,
-    F4: for<'b> Fn(Global, Depth, &mut SubstitutionTable, IndexStr<'b>) -> Result<(Encoding, IndexStr<'b>)> + Copy,
-    F5: for<'b> Fn(Global, Depth, &mut SubstitutionTable, IndexStr<'b>) -> Result<(MangledName, IndexStr<'b>)> + Copy,
+    F0: for<'b> Fn(
+        Global,
+        Depth,
+        &mut SubstitutionTable,
+        IndexStr<'b>,
+    ) -> Result<(TypeHandle, IndexStr<'b>)>
+        + Copy,
+    F1: for<'b> Fn(
+        Global,
+        Depth,
+        &mut SubstitutionTable,
+        IndexStr<'b>,
+    ) -> Result<(Expression, IndexStr<'b>)>
+        + Copy,
+    F2: for<'b> Fn(
+        Global,
+        Depth,
+        &mut SubstitutionTable,
+        IndexStr<'b>,
+    ) -> Result<(TemplateArg, IndexStr<'b>)>
+        + Copy,
+    F3: for<'b> Fn(
+        Global,
+        Depth,
+        &mut SubstitutionTable,
+        IndexStr<'b>,
+    ) -> Result<(Name, IndexStr<'b>)>
+        + Copy,
+    F4: for<'b> Fn(
+        Global,
+        Depth,
+        &mut SubstitutionTable,
+        IndexStr<'b>,
+    ) -> Result<(Encoding, IndexStr<'b>)>
+        + Copy,
+    F5: for<'b> Fn(
+        Global,
+        Depth,
+        &mut SubstitutionTable,
+        IndexStr<'b>,
+    ) -> Result<(MangledName, IndexStr<'b>)>
+        + Copy,
 {
     ghost most = { λ s. s.most.levels };
 
-    ghost can = {
-        λ s. MayRead tree_of_type_handle Row.type_handle (F0.pre s.type_handle) (F0.post s.type_handle) s.most.levels
+    ghost can = { λ s. MayRead tree_of_type_handle Row.type_handle (F0.pre s.type_handle) (F0.post s.type_handle) s.most.levels
         × MayRead tree_of_expression Row.expression (F1.pre s.expression) (F1.post s.expression) s.most.levels
         × MayRead tree_of_template_arg Row.template_arg (F2.pre s.template_arg) (F2.post s.template_arg) s.most.levels
         × MayRead tree_of_name Row.name (F3.pre s.name) (F3.post s.name) s.most.levels
         × MayRead tree_of_encoding Row.encoding (F4.pre s.encoding) (F4.post s.encoding) s.most.levels
-        × MayRead tree_of_mangled_name Row.mangled_name (F5.pre s.mangled_name) (F5.post s.mangled_name) s.most.levels
-    };
+        × MayRead tree_of_mangled_name Row.mangled_name (F5.pre s.mangled_name) (F5.post s.mangled_name) s.most.levels };
 
     fn type_handle<'b>(
         self,

@@ -33,6 +33,7 @@ list_ends tree f c r p y z ts o e answer h (inr b) k = by (subst (λ a. Reads tr
   where
     row : Rattle.demangle_grammar.specs.Code.Reply
     row = cread f r c (here (spot p) y) []
+
     by : Reads tree (Err e) y z row → (e ≡ OutOfMemory) ⊎ (o ≡ No (ends (kind e)) (kind e))
     by (t, inl m) = inl m
     by (t, inr q) =

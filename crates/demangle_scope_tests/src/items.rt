@@ -24,7 +24,9 @@ fn is_qualified(node: &TypeNode) -> bool {
 }
 
 fn is_member_in_type(node: &TypeNode) -> bool {
-    InnerItem::Node(node).downcast_to_pointer_to_member().is_some()
+    InnerItem::Node(node)
+        .downcast_to_pointer_to_member()
+        .is_some()
 }
 
 #[test]
@@ -32,7 +34,12 @@ fn a_type_answers_for_what_it_holds(rt: HostRuntime) {
     let member = PointerToMemberType(int(), int());
     assert!(rt; holds(TypeNode::PointerTo(int()), is_plain_type));
     assert!(rt; !holds(TypeNode::PointerTo(int()), is_qualified));
-    assert!(rt; holds(TypeNode::Qualified(CvQualifiers::default(), int()), is_qualified));
+    assert!(rt;
+        holds(
+            TypeNode::Qualified(CvQualifiers::default(), int()),
+            is_qualified
+        )
+    );
     assert!(rt; holds(TypeNode::PointerToMember(member), is_member_in_type));
 }
 

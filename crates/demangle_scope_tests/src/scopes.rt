@@ -117,7 +117,12 @@ fn shorter_list_is_passed(list: &TemplateArgs, empty: &TemplateArgs) -> bool {
 fn a_list_that_is_being_printed_hides_what_follows(rt: HostRuntime) {
     let alloc = rt.alloc();
     assert!(rt; holds(both(two_at(alloc, 5), two_at(alloc, 9)), own_mark_is_met));
-    assert!(rt; holds(both(two_at(alloc, 5), two_at(alloc, 9)), other_mark_is_passed));
+    assert!(rt;
+        holds(
+            both(two_at(alloc, 5), two_at(alloc, 9)),
+            other_mark_is_passed
+        )
+    );
 }
 
 #[test]

@@ -6,9 +6,10 @@ use Rattle.demangle_parse_types.proofs.arguments.some_arguments.Goals as goal
 
 pub returns-in-Err : goal.returns-in-Err
 returns-in-Err g c =
-    let d = c.args.depth in let a = c.template_arg-answer in let l = c.loop-found in
-    (cut_is _ _ _ _ c.in-Err.ensures.0 c.lengths-mark.ensures
-        (list_cut tree_of_template_arg d.levels d.conversion Row.template_arg l.rest _ _ _ a.result a.ensures
-            l.invariant.1),
-     list_ends tree_of_template_arg d.levels d.conversion Row.template_arg l.rest _ _ _ _ _ a.result a.ensures
-        c.in-Err.ensures.1 l.invariant.0)
+    let d = c.args.depth in let a = c.template_arg-answer in let l = c.loop-found in (
+      cut_is _ _ _ _ c.in-Err.ensures.0 c.lengths-mark.ensures
+          (list_cut tree_of_template_arg d.levels d.conversion Row.template_arg l.rest _ _ _ a.result a.ensures
+          l.invariant.1),
+      list_ends tree_of_template_arg d.levels d.conversion Row.template_arg l.rest _ _ _ _ _ a.result a.ensures
+          c.in-Err.ensures.1 l.invariant.0,
+    )
