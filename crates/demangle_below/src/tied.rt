@@ -74,12 +74,14 @@ where
 {
     ghost most = { λ s. s.most.levels };
 
-    ghost can = { λ s. MayRead tree_of_type_handle Row.type_handle (F0.pre s.type_handle) (F0.post s.type_handle) s.most.levels
+    ghost can = { λ s.
+        MayRead tree_of_type_handle Row.type_handle (F0.pre s.type_handle) (F0.post s.type_handle) s.most.levels
         × MayRead tree_of_expression Row.expression (F1.pre s.expression) (F1.post s.expression) s.most.levels
         × MayRead tree_of_template_arg Row.template_arg (F2.pre s.template_arg) (F2.post s.template_arg) s.most.levels
         × MayRead tree_of_name Row.name (F3.pre s.name) (F3.post s.name) s.most.levels
         × MayRead tree_of_encoding Row.encoding (F4.pre s.encoding) (F4.post s.encoding) s.most.levels
-        × MayRead tree_of_mangled_name Row.mangled_name (F5.pre s.mangled_name) (F5.post s.mangled_name) s.most.levels };
+        × MayRead tree_of_mangled_name Row.mangled_name (F5.pre s.mangled_name) (F5.post s.mangled_name)
+        s.most.levels };
 
     fn type_handle<'b>(
         self,
