@@ -93,14 +93,30 @@ fn newest_list_gives(list: &TemplateArgs, other: &TemplateArgs) -> bool {
     }
 }
 
+// A name and a list.
+#[derive(Drop)]
+struct Named {
+    name: SourceName,
+    list: TemplateArgs,
+}
+
+fn named(list: Result<TemplateArgs>) -> Result<Named> {
+    match list {
+        Ok(list) => Ok(Named {
+            name: SourceName(Identifier { start: 4, end: 7 }),
+            list,
+        }),
+        Err(error) => Err(error),
+    }
+}
+
 // A leaf name is found behind a list.
-fn leaf_is_behind(list: &TemplateArgs, _other: &TemplateArgs) -> bool {
-    let name = SourceName(Identifier { start: 4, end: 7 });
+fn leaf_is_behind(item: &Named, _other: &Named) -> bool {
     let nothing = None;
-    let older = scope_push(&nothing, ScopeItem::SourceName(&name));
-    let scope = scope_push(&older, ScopeItem::Args(list));
+    let older = scope_push(&nothing, ScopeItem::SourceName(&item.name));
+    let scope = scope_push(&older, ScopeItem::Args(&item.list));
     match scope_leaf_name(&scope) {
-        Ok(LeafName::SourceName(found)) => *found == name,
+        Ok(LeafName::SourceName(found)) => *found == item.name,
         _ => false,
     }
 }
@@ -130,7 +146,12 @@ fn the_newest_entry_answers(rt: HostRuntime) {
     let alloc = rt.alloc();
     let empty = Ok(TemplateArgs(Vec::new(alloc), 9));
     assert!(rt; holds(both(two_at(alloc, 5), two_at(alloc, 9)), newest_list_gives));
-    assert!(rt; holds(both(two_at(alloc, 5), two_at(alloc, 9)), leaf_is_behind));
+    assert!(rt;
+        holds(
+            both(named(two_at(alloc, 5)), named(two_at(alloc, 9))),
+            leaf_is_behind
+        )
+    );
     assert!(rt; holds(both(two_at(alloc, 5), empty), shorter_list_is_passed));
 }
 
