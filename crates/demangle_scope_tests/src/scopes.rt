@@ -100,7 +100,7 @@ struct Named {
     list: TemplateArgs,
 }
 
-fn named(list: Result<TemplateArgs>) -> Result<Named> {
+fn with_a_name(list: Result<TemplateArgs>) -> Result<Named> {
     match list {
         Ok(list) => Ok(Named {
             name: SourceName(Identifier { start: 4, end: 7 }),
@@ -148,7 +148,7 @@ fn the_newest_entry_answers(rt: HostRuntime) {
     assert!(rt; holds(both(two_at(alloc, 5), two_at(alloc, 9)), newest_list_gives));
     assert!(rt;
         holds(
-            both(named(two_at(alloc, 5)), named(two_at(alloc, 9))),
+            both(with_a_name(two_at(alloc, 5)), with_a_name(two_at(alloc, 9))),
             leaf_is_behind
         )
     );
