@@ -7,7 +7,7 @@ ghost use Rattle.demangle_table.specs.TableOf.{table_of};
 ghost use Rattle.demangle_answers.specs.Held.{Passes, Restores, Keeps, Inserts, Closes, Boxes, BoxesAnswer, MayMiss};
 ghost use Rattle.demangle_answers.specs.Held.{Begins, Grows, Lengthens, LooksBehind};
 
-use crate::discard::Discard;
+use demangle_discard::Discard;
 use demangle_table::SubstitutionTable;
 use demangle_text::{Error, IndexStr, Result, consume};
 use std::alloc::Global;

@@ -3,7 +3,6 @@
 #![tactic(auto)]
 
 mod components;
-mod discard;
 mod held;
 mod next;
 
@@ -11,7 +10,7 @@ pub use components::{
     add_expression, add_member_template, add_prefix, add_template_name,
     add_template_template_param, add_type, add_unresolved_type,
 };
-pub use discard::Discard;
+pub use demangle_discard::Discard;
 pub use held::{
     begun, boxed, closed, grown, in_box, kept, lengthened, looked_behind, may_miss, passed,
     restored,
