@@ -1,8 +1,9 @@
 -- What contracts see of a context of printing: the state without its level, which lines hold by value; the items that
--- are set aside; what the listener was told, and its counts; and the first trouble.
+-- are set aside; what is seen of the listener; and the first trouble.
 use Rattle.std.specs.Prelude.{ℕ, List, Option}
 use Rattle.demangle_core.specs.Core.{Core}
-use Rattle.demangle_printing.specs.State.{Event, Fault, Held, Flags, State}
+use Rattle.demangle_printing.specs.State.{Fault, Held, Flags, State}
+use Rattle.demangle_meets.specs.Seen.{Seen}
 
 -- What is lost where it has nothing to do with the name: the listener failed; it had no memory; a stack of items had
 -- no room.
@@ -23,9 +24,8 @@ pub record Page : Type 0 where
   pub source : Option (List ℕ)
   pub flags : Flags
   pub room : Option ℕ
-  pub told : List Event
-  pub faults : ℕ  -- how often the listener failed
-  pub refusals : ℕ  -- how often it had no memory
+  pub reserved : ℕ  -- for how many items each stack has room from the beginning
+  pub seen : Seen
   pub trouble : Option Trouble
 
 -- The state at a level.
