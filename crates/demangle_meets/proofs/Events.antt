@@ -157,7 +157,7 @@ module _ {p : Place} {a m n o : Page} {i : Kind} {v : Bool} {f : Act Core} (d : 
         cut = λ c z y. cut_before (after (opened i ∷ []) (act (deeper p) f (at p.level a))) close
             (ended_cut c z (sym e.trouble ∙ y)) (told_nothing o.seen);
         fits = λ z y r. body.fits z (sym e.trouble ∙ y) r;
-        reserved = e.reserved ∙ body.reserved;
+        fixed = e.fixed ∙ body.fixed;
         faults = counts_then (λ t z. (body.stays t z).1) (λ t z. e.trouble ∙ z) body.faults
             (counts_same e.counts.0 (λ z y. no_trouble (lost failed) n.trouble z (sym e.trouble ∙ y)));
         refusals = counts_then (λ t z. (body.stays t z).1) (λ t z. e.trouble ∙ z) body.refusals

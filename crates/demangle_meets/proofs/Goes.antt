@@ -82,9 +82,9 @@ goes_then {p} {a} {m} {b} {g} {h} {S} {T} {V} d q left right =
     in
     let
     fits_by : (x : Option Trouble) → m.trouble ≡ x → a.trouble ≡ None → b.trouble ≡ Some (lost full) → V →
-    a.reserved ≤ p.level + p.left =
+    a.fixed.reserved ≤ p.level + p.left =
     elim [
-      | None ↦ λ e n z v. subst (λ k. k ≤ p.level + p.left) d.reserved (q.fits e z (right n e v))
+      | None ↦ λ e n z v. subst (λ k. k.reserved ≤ p.level + p.left) d.fixed (q.fits e z (right n e v))
       | Some t ↦ λ e n z v. d.fits n (e ∙ (sym (q.stays t e).1 ∙ z)) (left v)
     ]
     in
@@ -93,7 +93,7 @@ goes_then {p} {a} {m} {b} {g} {h} {S} {T} {V} d q left right =
       stopped = λ f. stopped_by f m.trouble refl;
       cut = λ c. cut_by c m.trouble refl;
       fits = fits_by m.trouble refl;
-      reserved = q.reserved ∙ d.reserved;
+      fixed = q.fixed ∙ d.fixed;
       faults = counts_then (λ t e. (d.stays t e).1) (λ t e. (q.stays t e).1) d.faults q.faults;
       refusals = counts_then (λ t e. (d.stays t e).1) (λ t e. (q.stays t e).1) d.refusals q.refusals;
       stays = λ t e. (told_then (d.stays t e).0 (q.stays t (d.stays t e).1).0, (q.stays t (d.stays t e).1).1);
@@ -114,7 +114,7 @@ goes_as {p} {a} {b} {g} {h} {S} {T} e r d =
       stopped = λ f n z. subst (λ y. Stopped a.seen b.seen y f) (sym (e n)) (d.stopped f n z);
       cut = λ c n z. subst (λ y. Cut a.seen b.seen y) (sym (e n)) (d.cut c n z);
       fits = λ n z t. d.fits n z (r n t);
-      reserved = d.reserved;
+      fixed = d.fixed;
       faults = d.faults;
       refusals = d.refusals;
       stays = d.stays;
@@ -128,7 +128,7 @@ goes_nowhere {p} {a} =
       stopped = λ f n z. no_trouble (fault f) a.trouble n z;
       cut = λ c n z. no_trouble (lost c) a.trouble n z;
       fits = λ n z v. no_trouble (lost full) a.trouble n z;
-      reserved = refl;
+      fixed = refl;
       faults = counts_same refl (λ n z. no_trouble (lost failed) a.trouble n z);
       refusals = counts_same refl (λ n z. no_trouble (lost refused) a.trouble n z);
       stays = λ t e. (told_nothing a.seen, e);

@@ -14,14 +14,14 @@ use Rattle.demangle_meets.specs.Page.{Page, Trouble, fault, lost, Loss, failed, 
 use Rattle.demangle_meets.specs.Goes.{Whole, Stopped, Goes}
 use Rattle.demangle_meets.specs.Place.{Place, world_of}
 use Rattle.demangle_meets.specs.Meets.{deeper, fitting, Meets}
-use Rattle.demangle_meets.specs.Laws.{LosesByListener, LeavesFitting, CountsStay, LeavesSome, fault_in, StopsExactly}
+use Rattle.demangle_meets.specs.Laws.{LosesByListener, LeavesFitting, CountsStay, LeavesSome, StaysFixed, fault_in, StopsExactly}
 use Rattle.demangle_meets.specs.Laws.{WasTold, WasStopped, TellsInOrder}
 use Rattle.demangle_meets.proofs.Goes.{goes_after}
 use Rattle.demangle_meets.proofs.Acts.{job_meets}
 
 -- ---- what is lost
 no_room : (p : Place) (a b : Page) (j : Job Core) (sc : Scope Core) → Meets p a b (call j sc done) →
-    a.trouble ≡ None → IsFitting a.aside (at p.level a) → p.level + p.left < a.reserved →
+    a.trouble ≡ None → IsFitting a.aside (at p.level a) → p.level + p.left < a.fixed.reserved →
     b.trouble ≡ Some (lost full) → ⊥
 no_room p a b j sc d n h r z =
     let
@@ -51,6 +51,9 @@ leaves_items p a b j sc d n z =
           (print_leaves (world_of p.refers) p.left j sc (at p.level a));
       aside = d.same.is n z;
     }
+
+pub stays_fixed : StaysFixed
+stays_fixed p a b j sc d = (job_meets d).fixed
 
 -- ---- why it stopped
 fault_known : (x : Answer Core) (o : Option Trouble) → (o ≡ None → fault_in x ≡ None) →

@@ -41,7 +41,7 @@ goes_deeper {a} {b} {g} r left level d =
       stopped = λ f n z. stopped_before (g (at (level + 1) a)) back (d.stopped f n z) (told_nothing b.seen);
       cut = λ c n z. cut_before (g (at (level + 1) a)) back (d.cut c n z) (told_nothing b.seen);
       fits = λ n z v. let h = d.fits n z v in omega (arith, h);
-      reserved = d.reserved;
+      fixed = d.fixed;
       faults = d.faults;
       refusals = d.refusals;
       stays = d.stays;

@@ -11,11 +11,11 @@ use Rattle.demangle_meets.specs.Goes.{events, Rose, Counts, Goes}
 use Rattle.demangle_meets.proofs.Told.{stand_none}
 use Rattle.demangle_meets.proofs.Goes.{no_trouble, counts_same}
 
--- The counts are as before, and so is the room of the stacks.
+-- The counts are as before, and so is what is fixed.
 pub record Quiet (a b : Page) : Type 0 where
   pub faults : b.seen.faults ≡ a.seen.faults
   pub refusals : b.seen.refusals ≡ a.seen.refusals
-  pub reserved : b.reserved ≡ a.reserved
+  pub fixed : b.fixed ≡ a.fixed
 
 -- after trouble
 pub goes_stopped : {p : Place} {a b : Page} {g : State Core → Answer Core} {S : Type 0} (t : Trouble) →
@@ -26,7 +26,7 @@ goes_stopped {p} {a} {b} t e told same q =
       stopped = λ f n z. no_trouble t a.trouble n e;
       cut = λ c n z. no_trouble t a.trouble n e;
       fits = λ n z v. no_trouble t a.trouble n e;
-      reserved = q.reserved;
+      fixed = q.fixed;
       faults = counts_same q.faults (λ n z. no_trouble t a.trouble n e);
       refusals = counts_same q.refusals (λ n z. no_trouble t a.trouble n e);
       stays = λ u h. (told, same ∙ h);
@@ -42,7 +42,7 @@ goes_on {p} {a} {b} m n o e told q =
       stopped = λ f _ z. no_trouble (fault f) b.trouble o z;
       cut = λ c _ z. no_trouble (lost c) b.trouble o z;
       fits = λ _ z v. no_trouble (lost full) b.trouble o z;
-      reserved = q.reserved;
+      fixed = q.fixed;
       faults = counts_same q.faults (λ _ z. no_trouble (lost failed) b.trouble o z);
       refusals = counts_same q.refusals (λ _ z. no_trouble (lost refused) b.trouble o z);
       stays = λ t z. no_trouble t a.trouble n z;
@@ -63,7 +63,7 @@ goes_wrong {p} {a} {b} f n o e told q =
       };
       cut = λ c _ z. absurd (let same : Some (fault f) ≡ Some (lost c) = sym o ∙ z in cc);
       fits = λ _ z v. absurd (let same : Some (fault f) ≡ Some (lost full) = sym o ∙ z in cc);
-      reserved = q.reserved;
+      fixed = q.fixed;
       faults = counts_same q.faults (λ _ z. let same : Some (fault f) ≡ Some (lost failed) = sym o ∙ z in cc);
       refusals = counts_same q.refusals (λ _ z. let same : Some (fault f) ≡ Some (lost refused) = sym o ∙ z in cc);
       stays = λ t z. no_trouble t a.trouble n z;
@@ -71,11 +71,11 @@ goes_wrong {p} {a} {b} f n o e told q =
 
 -- It was lost, and nothing of it was told.
 pub goes_lost : {p : Place} {a b : Page} {g : State Core → Answer Core} {S : Type 0} (c : Loss) → a.trouble ≡ None →
-    b.trouble ≡ Some (lost c) → Told a.seen b.seen [] → (c ≡ full → S → a.reserved ≤ p.level + p.left) →
-    b.reserved ≡ a.reserved →
+    b.trouble ≡ Some (lost c) → Told a.seen b.seen [] → (c ≡ full → S → a.fixed.reserved ≤ p.level + p.left) →
+    b.fixed ≡ a.fixed →
     Counts failed a.seen.faults b.seen.faults None (Some (lost c)) →
     Counts refused a.seen.refusals b.seen.refusals None (Some (lost c)) → Goes p a b g S
-goes_lost {p} {a} {b} {g} c n o told fits reserved r q =
+goes_lost {p} {a} {b} {g} c n o told fits fixed r q =
     record {
       done = λ _ z. no_trouble (lost c) b.trouble z o;
       stopped = λ f _ z. absurd (let same : Some (lost c) ≡ Some (fault f) = sym o ∙ z in cc);
@@ -88,7 +88,7 @@ goes_lost {p} {a} {b} {g} c n o told fits reserved r q =
         were_open = stand_none [];
       };
       fits = λ _ z v. fits (let same : Some (lost c) ≡ Some (lost full) = sym o ∙ z in cc) v;
-      reserved = reserved;
+      fixed = fixed;
       faults = subst (λ x. Counts failed a.seen.faults b.seen.faults x b.trouble) (sym n)
           (subst (λ y. Counts failed a.seen.faults b.seen.faults None y) (sym o) r);
       refusals = subst (λ x. Counts refused a.seen.refusals b.seen.refusals x b.trouble) (sym n)
@@ -107,24 +107,24 @@ counts_rose r =
 -- The listener failed: its count of these says so.
 pub goes_failed : {p : Place} {a b : Page} {g : State Core → Answer Core} {S : Type 0} → a.trouble ≡ None →
     b.trouble ≡ Some (lost failed) → Told a.seen b.seen [] → Rose a.seen.faults b.seen.faults →
-    b.seen.refusals ≡ a.seen.refusals → b.reserved ≡ a.reserved → Goes p a b g S
-goes_failed n o told r e reserved =
-    goes_lost failed n o told (λ h. absurd (let k : failed ≡ full = h in cc)) reserved (counts_rose r)
+    b.seen.refusals ≡ a.seen.refusals → b.fixed ≡ a.fixed → Goes p a b g S
+goes_failed n o told r e fixed =
+    goes_lost failed n o told (λ h. absurd (let k : failed ≡ full = h in cc)) fixed (counts_rose r)
     (counts_same e (λ _ z. let k : Some (lost failed) ≡ Some (lost refused) = z in cc))
 
 -- The listener had no memory.
 pub goes_refused : {p : Place} {a b : Page} {g : State Core → Answer Core} {S : Type 0} → a.trouble ≡ None →
     b.trouble ≡ Some (lost refused) → Told a.seen b.seen [] → b.seen.faults ≡ a.seen.faults →
-    Rose a.seen.refusals b.seen.refusals → b.reserved ≡ a.reserved → Goes p a b g S
-goes_refused n o told e r reserved =
-    goes_lost refused n o told (λ h. absurd (let k : refused ≡ full = h in cc)) reserved
+    Rose a.seen.refusals b.seen.refusals → b.fixed ≡ a.fixed → Goes p a b g S
+goes_refused n o told e r fixed =
+    goes_lost refused n o told (λ h. absurd (let k : refused ≡ full = h in cc)) fixed
     (counts_same e (λ _ z. let k : Some (lost refused) ≡ Some (lost failed) = z in cc)) (counts_rose r)
 
 -- A stack had no room: some item's level isn't below this one, or there are more levels than it has room for.
 pub goes_full : {p : Place} {a b : Page} {g : State Core → Answer Core} {S : Type 0} → a.trouble ≡ None →
-    b.trouble ≡ Some (lost full) → Told a.seen b.seen [] → (S → a.reserved ≤ p.level + p.left) → Quiet a b →
+    b.trouble ≡ Some (lost full) → Told a.seen b.seen [] → (S → a.fixed.reserved ≤ p.level + p.left) → Quiet a b →
     Goes p a b g S
-goes_full n o told h q = goes_lost full n o told (λ _. h) q.reserved
+goes_full n o told h q = goes_lost full n o told (λ _. h) q.fixed
     (counts_same q.faults (λ _ z. let k : Some (lost full) ≡ Some (lost failed) = z in cc))
     (counts_same q.refusals (λ _ z. let k : Some (lost full) ≡ Some (lost refused) = z in cc))
 

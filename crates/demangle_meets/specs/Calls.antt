@@ -71,7 +71,7 @@ pub record Ends (is_told : Bool) (a b : Page) : Type 0 where
   pub no_trouble : a.trouble ≡ None → b.trouble ≡ None
   pub aside : a.trouble ≡ None → b.aside ≡ a.aside
   pub trouble : b.trouble ≡ a.trouble
-  pub reserved : b.reserved ≡ a.reserved
+  pub fixed : b.fixed ≡ a.fixed
   pub counts : (b.seen.faults ≡ a.seen.faults) × (b.seen.refusals ≡ a.seen.refusals)
   pub ended : ℕ
   pub most : ended ≤ most_ended is_told

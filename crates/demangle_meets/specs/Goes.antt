@@ -70,8 +70,8 @@ pub record Goes (p : Place) (a b : Page) (go : State Core → Answer Core) (read
   pub stopped : (f : Fault) → a.trouble ≡ None → b.trouble ≡ Some (fault f) →
       Stopped a.seen b.seen (go (at p.level a)) f
   pub cut : (c : Loss) → a.trouble ≡ None → b.trouble ≡ Some (lost c) → Cut a.seen b.seen (go (at p.level a))
-  pub fits : a.trouble ≡ None → b.trouble ≡ Some (lost full) → ready → a.reserved ≤ p.level + p.left
-  pub reserved : b.reserved ≡ a.reserved
+  pub fits : a.trouble ≡ None → b.trouble ≡ Some (lost full) → ready → a.fixed.reserved ≤ p.level + p.left
+  pub fixed : b.fixed ≡ a.fixed
   pub faults : Counts failed a.seen.faults b.seen.faults a.trouble b.trouble
   pub refusals : Counts refused a.seen.refusals b.seen.refusals a.trouble b.trouble
   pub stays : (t : Trouble) → a.trouble ≡ Some t → Told a.seen b.seen [] × (b.trouble ≡ Some t)

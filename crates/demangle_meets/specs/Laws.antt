@@ -56,7 +56,7 @@ IsListeners full a b = ⊥
 abbrev pub LosesByListener : Type 0
 LosesByListener = (p : Place) (a b : Page) (j : Job Core) (sc : Scope Core) (c : Loss) →
     Meets p a b (call j sc done) → a.trouble ≡ None → IsFitting a.aside (at p.level a) →
-    p.level + p.left < a.reserved → b.trouble ≡ Some (lost c) → IsListeners c a b
+    p.level + p.left < a.fixed.reserved → b.trouble ≡ Some (lost c) → IsListeners c a b
 
 -- And where no trouble comes, it is so again.
 abbrev pub LeavesFitting : Type 0
@@ -81,6 +81,10 @@ pub record LeavesItems (p : Place) (a b : Page) : Type 0 where
 abbrev pub LeavesSome : Type 0
 LeavesSome = (p : Place) (a b : Page) (j : Job Core) (sc : Scope Core) → Meets p a b (call j sc done) →
     a.trouble ≡ None → b.trouble ≡ None → LeavesItems p a b
+
+-- What is fixed stays so, with trouble too.
+abbrev pub StaysFixed : Type 0
+StaysFixed = (p : Place) (a b : Page) (j : Job Core) (sc : Scope Core) → Meets p a b (call j sc done) → b.fixed ≡ a.fixed
 
 -- ---- what was told
 -- All of it was told, and each node that begins ends.

@@ -4,7 +4,7 @@
 #![tactic(auto)]
 
 ghost use Rattle.demangle_meets.specs.Laws.{StacksSuffice, LosesByListener, LeavesFitting, CountsStay, LeavesSome};
-ghost use Rattle.demangle_meets.specs.Laws.{StopsExactly, TellsCalls, TellsInOrder, TellsText};
+ghost use Rattle.demangle_meets.specs.Laws.{StaysFixed, StopsExactly, TellsCalls, TellsInOrder, TellsText};
 
 /// What a listener was told, where it tells its calls: these events and no others, in order, behind those that it told
 /// before.
@@ -42,6 +42,11 @@ pub fn counts_stay()
 /// Without trouble the kept items and those that are set aside are as before, and of the inner items some are left.
 pub fn leaves_items()
     ensures { LeavesSome }
+{}
+
+/// What is fixed stays as it is, with trouble too.
+pub fn stays_fixed()
+    ensures { StaysFixed }
 {}
 
 /// Where nothing is lost, printing stops for the fault of the definition, or not at all where that has none.
