@@ -4,7 +4,8 @@ use Rattle.std.specs.Prelude.{Result, Ok, Err, OnOk, IfErr}
 use Rattle.std.specs.Char.{encode_utf8}
 use Rattle.demangle_printing.specs.State.{has_room, less_room, wrote, is_byte}
 use Rattle.demangle_printing.specs.Laws.{IsReady}
-use Rattle.demangle_context.specs.Seen.{Call, Hears, HearsText, Fails, LacksMemory}
+use Rattle.demangle_meets.specs.Seen.{Call}
+use Rattle.demangle_context.specs.Hears.{Hears, HearsText, Fails, LacksMemory}
 use Rattle.demangle_context.specs.Room.{most_items}
 use Rattle.demangle_context.specs.View.{View, state_of}
 use Rattle.demangle_context.specs.declared.error.DemangleError.{DemangleError}

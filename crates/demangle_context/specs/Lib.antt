@@ -1,7 +1,7 @@
 pub mod Options
 pub mod Errors
 pub mod Kinds
-pub mod Seen
+pub mod Hears
 pub mod Room
 pub mod Items
 pub mod ItemsOf

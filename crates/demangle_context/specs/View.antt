@@ -4,7 +4,7 @@ use Rattle.std.specs.Char.{encode_utf8}
 use Rattle.demangle_core.specs.Core.{Core}
 use Rattle.demangle_printing.specs.State.{Flags, State, last_of}
 use Rattle.demangle_printing.specs.Outcome.{Options, first_state}
-use Rattle.demangle_context.specs.Seen.{Seen}
+use Rattle.demangle_meets.specs.Seen.{Seen}
 use Rattle.demangle_context.specs.Items.{Items, no_items}
 use Rattle.demangle_context.specs.ItemsOf.{items_of}
 use Rattle.demangle_context.specs.declared.context.DemangleFlags.{DemangleFlags}

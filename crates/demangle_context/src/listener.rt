@@ -2,7 +2,8 @@
 
 ghost use Rattle.std.specs.Prelude.{OnOk, IfErr};
 ghost use Rattle.demangle_context.specs.Kinds.{kind_of};
-ghost use Rattle.demangle_context.specs.Seen.{Seen, piece, begins, ends, Hears, Refuses};
+ghost use Rattle.demangle_meets.specs.Seen.{Seen, piece, begins, ends};
+ghost use Rattle.demangle_context.specs.Hears.{Hears, Refuses};
 
 use crate::error::SinkFault;
 

@@ -19,18 +19,18 @@ use Rattle.demangle_meets.proofs.Told.{after_none}
 use Rattle.demangle_meets.proofs.Goes.{no_trouble, goes_then, goes_after, goes_as, goes_nowhere}
 
 -- ---- items that are set aside
-pub keeps_then : {l : ℕ} {a m b : Page} {g : State Core → Answer Core} {T : Type 0} → Keeps a m → Goes l m b g T →
+pub keeps_then : {p : Place} {a m b : Page} {g : State Core → Answer Core} {T : Type 0} → Keeps a m → Goes p m b g T →
     Keeps m b → Keeps a b
-keeps_then {l} {a} {m} {b} {g} {T} p d q = record { is = λ n z. by n z m.trouble refl }
+keeps_then {p} {a} {m} {b} {g} {T} c d q = record { is = λ n z. by n z m.trouble refl }
   where
     by : a.trouble ≡ None → b.trouble ≡ None → (x : Option Trouble) → m.trouble ≡ x → b.aside ≡ a.aside
-    by n z None e = q.is e z ∙ p.is n e
+    by n z None e = q.is e z ∙ c.is n e
     by n z (Some t) e = no_trouble t b.trouble z (d.stays t e).1
 
 -- without trouble at the end there was none before
-pub was_well : {l : ℕ} {a b : Page} {g : State Core → Answer Core} {S : Type 0} → Goes l a b g S →
+pub was_well : {p : Place} {a b : Page} {g : State Core → Answer Core} {S : Type 0} → Goes p a b g S →
     b.trouble ≡ None → a.trouble ≡ None
-was_well {l} {a} {b} d z = by a.trouble refl
+was_well {p} {a} {b} d z = by a.trouble refl
   where
     by : (x : Option Trouble) → a.trouble ≡ x → a.trouble ≡ None
     by None e = e
@@ -38,16 +38,16 @@ was_well {l} {a} {b} d z = by a.trouble refl
 
 -- ---- one step, and then an act
 pub then_act : {p : Place} {a m b : Page} {g : State Core → Answer Core} {S V : Type 0} {k : Act Core} →
-    Goes p.level a m g S → Keeps a m → Meets p m b k → (V → S) → (V → After (Ready p k a.aside) (g (at p.level a))) →
-    Goes p.level a b (λ s. bind (g s) (act (deeper p) k)) V
+    Goes p a m g S → Keeps a m → Meets p m b k → (V → S) → (V → After (Ready p k a.aside) (g (at p.level a))) →
+    Goes p a b (λ s. bind (g s) (act (deeper p) k)) V
 then_act {p} {a} {m} {k = k} d same q left right =
     goes_then d q.goes left (λ n e v. subst (λ z. Ready p k z (at p.level m)) (sym (same.is n e))
     (goes_after (Ready p k a.aside) d n e (right v)))
 
 -- the same of a step that only changes the state
 pub quiet_then : {p : Place} {a m b : Page} {to : State Core → State Core} {S V : Type 0} {k : Act Core} →
-    Goes p.level a m (λ s. yes [] (to s)) S → Keeps a m → Meets p m b k → (V → S) →
-    (V → Ready p k a.aside (to (at p.level a))) → Goes p.level a b (λ s. act (deeper p) k (to s)) V
+    Goes p a m (λ s. yes [] (to s)) S → Keeps a m → Meets p m b k → (V → S) →
+    (V → Ready p k a.aside (to (at p.level a))) → Goes p a b (λ s. act (deeper p) k (to s)) V
 quiet_then d same q left right = goes_as (λ _. sym (after_none _)) (λ _ v. v) (then_act d same q left right)
 
 -- ---- texts
@@ -60,7 +60,7 @@ pub meets_text : {p : Place} {a m b : Page} {bs : List ℕ} {k : Act Core} → S
 unfolding act Does
 meets_text {p} d q =
     record {
-      goes = then_act (d.at_level p.level) d.same q (λ v. tt) (λ v. v);
+      goes = then_act (d.at_place p) d.same q (λ v. tt) (λ v. v);
       same = keeps_then d.same q.goes q.same;
     }
 
@@ -68,13 +68,13 @@ pub meets_space : {p : Place} {a m b : Page} {k : Act Core} → Steps a m spaced
 unfolding act Does
 meets_space {p} d q =
     record {
-      goes = then_act (d.at_level p.level) d.same q (λ v. tt) (λ v. v);
+      goes = then_act (d.at_place p) d.same q (λ v. tt) (λ v. v);
       same = keeps_then d.same q.goes q.same;
     }
 
 pub meets_fail : {p : Place} {a b : Page} {f : Fault} → Steps a b (λ s. no [] f) → Meets p a b (fail f)
 unfolding act Does
-meets_fail {p} d = record { goes = goes_as (λ _. refl) (λ _ v. tt) (d.at_level p.level); same = d.same }
+meets_fail {p} d = record { goes = goes_as (λ _. refl) (λ _ v. tt) (d.at_place p); same = d.same }
 
 -- ---- acts
 pub meets_block : {p : Place} {a m b : Page} {f k : Act Core} → Meets p a m f → Meets p m b k →
@@ -97,13 +97,13 @@ bind_done p (yes m s) = ap (λ k. yes k s) (append-nil m)
 bind_done p (no m f) = refl
 
 pub meets_job : {p : Place} {a b : Page} {j : Job Core} {sc : Scope Core} →
-    Goes p.level a b (deeper p j sc) (fitting p a.aside j sc (at p.level a)) → Keeps a b → Meets p a b (call j sc done)
+    Goes p a b (deeper p j sc) (fitting p a.aside j sc (at p.level a)) → Keeps a b → Meets p a b (call j sc done)
 unfolding act Does
 meets_job {p} {a} {j = j} {sc = sc} d same =
     record { goes = goes_as (λ _. bind_done p (deeper p j sc (at p.level a))) (λ _ v. v.0) d; same = same }
 
 pub job_meets : {p : Place} {a b : Page} {j : Job Core} {sc : Scope Core} → Meets p a b (call j sc done) →
-    Goes p.level a b (deeper p j sc) (fitting p a.aside j sc (at p.level a))
+    Goes p a b (deeper p j sc) (fitting p a.aside j sc (at p.level a))
 unfolding act Does
 job_meets {p} {a} {j = j} {sc = sc} d =
     goes_as (λ _. sym (bind_done p (deeper p j sc (at p.level a)))) (λ _ v. (v, after_any _)) d.goes
@@ -148,7 +148,7 @@ closes_own {p} {a} {own = own} d q =
     record {
       goes = goes_as (λ n. ap (λ v. owned (deeper p) v (act (deeper p) own) (at p.level a)) (d.0 n))
           (λ n v. subst (λ y. OwnDoes (deeper p) (fitting p) y (Ready p own a.aside) (at p.level a)) (d.0 n) v)
-          (quiet_then {V = Ready p own a.aside (popped (at p.level a))} (d.1.at_level p.level) d.1.same q (λ v. tt)
+          (quiet_then {V = Ready p own a.aside (popped (at p.level a))} (d.1.at_place p) d.1.same q (λ v. tt)
           (λ v. v));
       same = keeps_then d.1.same q.goes q.same;
     }
@@ -157,7 +157,7 @@ pub closes_other : {p : Place} {a b : Page} {own : Act Core} → PopsOwn p.level
 closes_other {p} {a} {own = own} d =
     record {
       goes = goes_as (λ n. ap (λ v. owned (deeper p) v (act (deeper p) own) (at p.level a)) (d.0 n)) (λ n v. tt)
-          (d.1.at_level p.level);
+          (d.1.at_place p);
       same = d.1.same;
     }
 
@@ -166,7 +166,7 @@ pub meets_pop : {p : Place} {a m b : Page} {k : Act Core} → Steps a m (λ s. y
 unfolding act Does
 meets_pop {p} d q =
     record {
-      goes = quiet_then (d.at_level p.level) d.same q (λ v. tt) (λ v. v);
+      goes = quiet_then (d.at_place p) d.same q (λ v. tt) (λ v. v);
       same = keeps_then d.same q.goes q.same;
     }
 
@@ -176,7 +176,7 @@ pub meets_set : {p : Place} {a m b : Page} {i : Flag} {v : Bool} {k : Act Core} 
 unfolding act Does
 meets_set {p} d q =
     record {
-      goes = quiet_then (d.at_level p.level) d.same q (λ v. tt) (λ v. v);
+      goes = quiet_then (d.at_place p) d.same q (λ v. tt) (λ v. v);
       same = keeps_then d.same q.goes q.same;
     }
 
@@ -185,6 +185,6 @@ pub meets_named : {p : Place} {a m b : Page} {bs : List ℕ} {k : Act Core} →
 unfolding act Does
 meets_named {p} d q =
     record {
-      goes = quiet_then (d.at_level p.level) d.same q (λ v. tt) (λ v. v);
+      goes = quiet_then (d.at_place p) d.same q (λ v. tt) (λ v. v);
       same = keeps_then d.same q.goes q.same;
     }

@@ -18,9 +18,9 @@ use Rattle.demangle_meets.proofs.Acts.{keeps_then, was_well, then_act, quiet_the
 -- ---- an item in the midst
 -- the item is pushed, and the body done
 body_done : {p : Place} {a m n : Page} {x : Core} {f : Act Core} → Pushes p.level a m x → Meets p m n f →
-    Goes p.level a n (λ s. act (deeper p) f (pushed x s))
+    Goes p a n (λ s. act (deeper p) f (pushed x s))
     (IsReady a.aside (at p.level a) × Ready p f a.aside (pushed x (at p.level a)))
-body_done d q = quiet_then d.goes d.same q (λ v. v.0) (λ v. v.1)
+body_done {p} d q = quiet_then (d.at_place p refl) d.same q (λ v. v.0) (λ v. v.1)
 
 pub meets_held : {p : Place} {a m n o b : Page} {x : Core} {f own k : Act Core} → Pushes p.level a m x →
     Meets p m n f → Closes p n o own → Meets p o b k → Meets p a b (held x f own k)
@@ -36,7 +36,7 @@ meets_held {p} {a} {m} {n} {o} {b} {x} {f} {own} {k} d q c r =
     same : Keeps a n = keeps_then d.same q.goes q.same
     in
     let
-    closed : Goes p.level a o
+    closed : Goes p a o
     (λ s. bind (act (deeper p) f (pushed x s)) (λ t. owned (deeper p) (is_own t) (act (deeper p) own) t))
     (IsReady a.aside (at p.level a) × Ready p f a.aside (pushed x (at p.level a))
     × After Own (act (deeper p) f (pushed x (at p.level a)))) =
@@ -56,10 +56,10 @@ pub meets_fence : {p : Place} {a m n o b : Page} {count : ℕ} {f k : Act Core} 
 unfolding act Does
 meets_fence {p} {a} {m} {n} {o} {b} {count} {f} {k} d q e r =
     let
-    emptied : Goes p.level a m (λ s. yes [] (record s { inner = [] })) (Unit {0}) = d.at_level p.level
+    emptied : Goes p a m (λ s. yes [] (record s { inner = [] })) (Unit {0}) = d.at_place p
     in
     let
-    body : Goes p.level a n (λ s. act (deeper p) f (record s { inner = [] }))
+    body : Goes p a n (λ s. act (deeper p) f (record s { inner = [] }))
     (Ready p f (a.inner ++ a.aside) (record (at p.level a) { inner = [] })) =
     goes_as (λ _. sym (after_none _)) (λ _ v. v)
     (goes_then emptied q.goes (λ v. tt) (λ z y v. subst (λ u. Ready p f u (at p.level m)) (sym (d.aside z y))
@@ -74,21 +74,21 @@ meets_fence {p} {a} {m} {n} {o} {b} {count} {f} {k} d q e r =
     λ z. d.count (was_well emptied (was_well q.goes z))
     in
     let
-    back : Goes p.level n o (λ s. yes [] (record s { inner = a.inner })) (Unit {0}) =
-    e.at_level p.level a.inner a.aside items counted
+    back : Goes p n o (λ s. yes [] (record s { inner = a.inner })) (Unit {0}) =
+    e.at_place p a.inner a.aside items counted
     in
     let
     others : n.trouble ≡ None → o.trouble ≡ None → o.aside ≡ a.aside = e.aside a.inner a.aside items counted
     in
     let
-    behind : Goes p.level n b (λ t. act (deeper p) k (record t { inner = a.inner }))
+    behind : Goes p n b (λ t. act (deeper p) k (record t { inner = a.inner }))
     (Ready p k a.aside (record (at p.level n) { inner = a.inner })) =
     goes_as (λ _. sym (after_none _)) (λ _ v. v)
     (goes_then back r.goes (λ v. tt) (λ z y v. subst (λ u. Ready p k u (at p.level o)) (sym (others z y))
     (goes_after (Ready p k a.aside) back z y v)))
     in
     let
-    whole : Goes p.level a b
+    whole : Goes p a b
     (λ s. bind (act (deeper p) f (record s { inner = [] })) (λ t. act (deeper p) k (record t { inner = a.inner })))
     (Ready p f (a.inner ++ a.aside) (record (at p.level a) { inner = [] })
     × After (λ t. Ready p k a.aside (record t { inner = a.inner }))
@@ -110,20 +110,20 @@ pub meets_with_params : {p : Place} {a m n o b : Page} {f k : Act Core} →
 unfolding act Does
 meets_with_params {p} {a} {m} {n} {o} {b} {f} {k} d q e r =
     let
-    body : Goes p.level a n (λ s. act (deeper p) f (flagged params true s))
+    body : Goes p a n (λ s. act (deeper p) f (flagged params true s))
     (Ready p f a.aside (flagged params true (at p.level a))) =
-    quiet_then (d.at_level p.level) d.same q (λ v. tt) (λ v. v)
+    quiet_then (d.at_place p) d.same q (λ v. tt) (λ v. v)
     in
     let
     same : Keeps a n = keeps_then d.same q.goes q.same
     in
     let
-    behind : Goes p.level n b (λ t. act (deeper p) k (flagged params a.flags.params t))
+    behind : Goes p n b (λ t. act (deeper p) k (flagged params a.flags.params t))
     (Ready p k n.aside (flagged params a.flags.params (at p.level n))) =
-    quiet_then (e.at_level p.level) e.same r (λ v. tt) (λ v. v)
+    quiet_then (e.at_place p) e.same r (λ v. tt) (λ v. v)
     in
     let
-    whole : Goes p.level a b
+    whole : Goes p a b
     (λ s. bind (act (deeper p) f (flagged params true s))
     (λ t. act (deeper p) k (flagged params a.flags.params t)))
     (Ready p f a.aside (flagged params true (at p.level a))
@@ -135,5 +135,5 @@ meets_with_params {p} {a} {m} {n} {o} {b} {f} {k} d q e r =
     in
     record {
       goes = goes_as (λ _. refl) (λ _ v. v) whole;
-      same = keeps_then (keeps_then same (e.at_level p.level) e.same) r.goes r.same;
+      same = keeps_then (keeps_then same (e.at_place p) e.same) r.goes r.same;
     }

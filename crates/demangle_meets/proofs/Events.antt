@@ -1,7 +1,7 @@
 -- The events of a node. After trouble the listener may still be told that nodes end: no more than stand open.
 use Rattle.std.proofs.Common.{◌≡◌, ℕ, zero, suc, ◌+◌, ◌≤◌, Bool, true, false, List, [], ◌∷◌, ◌++◌, Option, Some, None}
 use Rattle.std.proofs.Common.{refl, sym, ◌∙◌, ap, subst, arith}
-use Rattle.std.proofs.lemmas.List.{append_assoc, append-nil}
+use Rattle.std.proofs.lemmas.List.{append_assoc}
 use Rattle.demangle_core.specs.Core.{Core}
 use Rattle.demangle_printing.specs.State.{Kind, Event, opened, closed, Fault, State, Answer, yes, no, after, bind}
 use Rattle.demangle_printing.specs.State as state
@@ -9,11 +9,13 @@ use Rattle.demangle_printing.specs.Act.{Act, event, act}
 use Rattle.demangle_printing.specs.Laws.{After, Does, open_behind, AreBracketed}
 use Rattle.demangle_printing.proofs.Closed.{none_open, open_then, act_bracketed, print_bracketed}
 use Rattle.demangle_meets.specs.Page.{Page, fault, lost, Loss, failed, refused, at}
-use Rattle.demangle_meets.specs.Goes.{events, ends, StandOpen, Stopped, Cut, Goes}
+use Rattle.demangle_meets.specs.Seen.{Seen, Told}
+use Rattle.demangle_meets.specs.Goes.{Whole, events, ends, StandOpen, Stopped, Cut, Goes}
 use Rattle.demangle_meets.specs.Place.{Place, world_of}
 use Rattle.demangle_meets.specs.Calls.{Keeps, Begins, Ends, most_ended}
 use Rattle.demangle_meets.specs.Meets.{deeper, Ready, Meets}
-use Rattle.demangle_meets.proofs.Told.{Yes, yes_of, after_after, events_after, stopped_before, cut_before}
+use Rattle.demangle_meets.proofs.Heard.{told_nothing, told_then}
+use Rattle.demangle_meets.proofs.Told.{after_after, events_after, stopped_before, cut_before}
 use Rattle.demangle_meets.proofs.Goes.{no_trouble, goes_then, goes_as, counts_then, counts_same}
 use Rattle.demangle_meets.proofs.Acts.{keeps_then, then_act}
 
@@ -65,13 +67,11 @@ ends_more zero d = ap ends (plain d)
 ends_more (suc k) d = ap (λ z. closed ∷ z) (ends_more k d) ∙ ap ends (up k d)
 
 -- ---- what was told
-told_more : (old mid new end : List Event) (i : Kind) (m : List Event) (k d : ℕ) → mid ≡ old ++ opened i ∷ [] →
-    new ≡ mid ++ (m ++ ends k) → end ≡ new ++ ends d → end ≡ old ++ ((opened i ∷ m) ++ ends (k + d))
-told_more old mid new end i m k d e f g =
-    g ∙ (ap (λ z. z ++ ends d) (f ∙ ap (λ z. z ++ (m ++ ends k)) e)
-    ∙ (append_assoc (old ++ opened i ∷ []) (m ++ ends k) (ends d)
-    ∙ (append_assoc old (opened i ∷ []) ((m ++ ends k) ++ ends d)
-    ∙ ap (λ z. old ++ opened i ∷ z) (append_assoc m (ends k) (ends d) ∙ ap (λ z. m ++ z) (ends_more k d)))))
+told_more : {old mid new end : Seen} (i : Kind) (m : List Event) (k d : ℕ) → Told old mid (opened i ∷ []) →
+    Told mid new (m ++ ends k) → Told new end (ends d) → Told old end ((opened i ∷ m) ++ ends (k + d))
+told_more {old = old} {end = end} i m k d e f g =
+    subst (λ z. Told old end (opened i ∷ z))
+    (append_assoc m (ends k) (ends d) ∙ ap (λ z. m ++ z) (ends_more k d)) (told_then e (told_then f g))
 
 most_one : (v : Bool) → most_ended v ≤ 1
 most_one true = omega arith
@@ -87,39 +87,38 @@ at_most v d h = let a = most_one v in omega (arith, a, h)
 -- ---- the body in the events of a node
 module _ {p : Place} {a m n o : Page} {i : Kind} {v : Bool} {f : Act Core} (d : Begins a m i v) (q : Meets p m n f)
     (e : Ends v n o) where
-  body : Goes p.level a n (λ s. after (opened i ∷ []) (act (deeper p) f s)) (Ready p f a.aside (at p.level a))
-  body = then_act (d.step.at_level p.level) d.step.same q (λ _. tt) (λ r. r)
+  body : Goes p a n (λ s. after (opened i ∷ []) (act (deeper p) f s)) (Ready p f a.aside (at p.level a))
+  body = then_act (d.step.at_place p) d.step.same q (λ _. tt) (λ r. r)
 
   -- where the node begins, the state is as before
-  begun : a.trouble ≡ None → Yes (yes (opened i ∷ []) (at p.level a)) a.told m.told (at p.level m)
-  begun z = yes_of (yes (opened i ∷ []) (at p.level a)) a.told m.told (at p.level m)
-      ((d.step.at_level p.level).done z (d.no_trouble z))
+  begun : a.trouble ≡ None → Whole a.seen m.seen (yes (opened i ∷ []) (at p.level a)) (at p.level m)
+  begun z = (d.step.at_place p).done z (d.no_trouble z)
 
   same_state : a.trouble ≡ None → at p.level m ≡ at p.level a
   same_state z = let r = (begun z).is in
-      let k : yes (opened i ∷ []) (at p.level a) ≡ yes (begun z).told (at p.level m) = r in
+      let k : yes (opened i ∷ []) (at p.level a) ≡ yes (begun z).all (at p.level m) = r in
       let j : at p.level a ≡ at p.level m = cc in sym j
 
-  grown : a.trouble ≡ None → m.told ≡ a.told ++ opened i ∷ []
-  grown z = let r = (begun z).is in
-      let k : yes (opened i ∷ []) (at p.level a) ≡ yes (begun z).told (at p.level m) = r in
-      let j : (begun z).told ≡ opened i ∷ [] = cc in (begun z).grown ∙ ap (λ y. a.told ++ y) j
+  told_begun : a.trouble ≡ None → Told a.seen m.seen (opened i ∷ [])
+  told_begun z = let r = (begun z).is in
+      let k : yes (opened i ∷ []) (at p.level a) ≡ yes (begun z).all (at p.level m) = r in
+      let j : (begun z).all ≡ opened i ∷ [] = cc in subst (Told a.seen m.seen) j (begun z).told
 
   well_bracketed : (s : State Core) → AreBracketed (act (deeper p) f s)
   well_bracketed s = act_bracketed (deeper p) (print_bracketed (world_of p.refers) p.left) f s
 
   ended_stopped : (g : Fault) → a.trouble ≡ None → n.trouble ≡ Some (fault g) →
-      Stopped a.told o.told (after (opened i ∷ []) (act (deeper p) f (at p.level a))) g
+      Stopped a.seen o.seen (after (opened i ∷ []) (act (deeper p) f (at p.level a))) g
   ended_stopped g z y =
       let
-      w : Stopped m.told n.told (act (deeper p) f (at p.level m)) g = q.goes.stopped g (d.no_trouble z) y
+      w : Stopped m.seen n.seen (act (deeper p) f (at p.level m)) g = q.goes.stopped g (d.no_trouble z) y
       in
       record {
         before = opened i ∷ w.before;
         ended = w.ended + e.ended;
         is = ap (after (opened i ∷ []))
             (ap (act (deeper p) f) (sym (same_state z)) ∙ w.is);
-        told = told_more a.told m.told n.told o.told i w.before w.ended e.ended (grown z) w.told (e.told (fault g) y);
+        told = told_more i w.before w.ended e.ended (told_begun z) w.told (e.told (fault g) y);
         were_open = one_more w.ended e.ended i w.before (at_most v e.ended e.most)
             (subst IsOpen (ap events w.is)
             (events_open (act (deeper p) f (at p.level m)) (well_bracketed (at p.level m))))
@@ -127,10 +126,10 @@ module _ {p : Place} {a m n o : Page} {i : Kind} {v : Bool} {f : Act Core} (d : 
       }
 
   ended_cut : (c : Loss) → a.trouble ≡ None → n.trouble ≡ Some (lost c) →
-      Cut a.told o.told (after (opened i ∷ []) (act (deeper p) f (at p.level a)))
+      Cut a.seen o.seen (after (opened i ∷ []) (act (deeper p) f (at p.level a)))
   ended_cut c z y =
       let
-      w : Cut m.told n.told (act (deeper p) f (at p.level m)) = q.goes.cut c (d.no_trouble z) y
+      w : Cut m.seen n.seen (act (deeper p) f (at p.level m)) = q.goes.cut c (d.no_trouble z) y
       in
       record {
         front = opened i ∷ w.front;
@@ -138,34 +137,35 @@ module _ {p : Place} {a m n o : Page} {i : Kind} {v : Bool} {f : Act Core} (d : 
         ended = w.ended + e.ended;
         is = events_after (opened i ∷ []) (act (deeper p) f (at p.level a))
             ∙ ap (λ k. opened i ∷ k) (ap (λ s. events (act (deeper p) f s)) (sym (same_state z)) ∙ w.is);
-        told = told_more a.told m.told n.told o.told i w.front w.ended e.ended (grown z) w.told (e.told (lost c) y);
+        told = told_more i w.front w.ended e.ended (told_begun z) w.told (e.told (lost c) y);
         were_open = one_more w.ended e.ended i w.front (at_most v e.ended e.most)
             (open_front w.front w.others (open_behind w.front (Some 0)) refl
             (subst IsOpen w.is (events_open (act (deeper p) f (at p.level m)) (well_bracketed (at p.level m)))))
             w.were_open;
       }
 
-  enclosed : Goes p.level a o (λ s. bind (after (opened i ∷ []) (act (deeper p) f s)) (λ t. yes (closed ∷ []) t))
+  enclosed : Goes p a o (λ s. bind (after (opened i ∷ []) (act (deeper p) f s)) (λ t. yes (closed ∷ []) t))
       (Ready p f a.aside (at p.level a))
   enclosed =
       let
       close : State Core → Answer Core = λ t. yes (closed ∷ []) t
       in
       record {
-        done = λ z y. (goes_then body (e.at_level p.level (sym e.trouble ∙ y)) (λ r. r) (λ _ _ _. tt)).done z y;
+        done = λ z y. (goes_then body (e.at_place p (sym e.trouble ∙ y)) (λ r. r) (λ _ _ _. tt)).done z y;
         stopped = λ g z y. stopped_before (after (opened i ∷ []) (act (deeper p) f (at p.level a))) close
-            (ended_stopped g z (sym e.trouble ∙ y));
+            (ended_stopped g z (sym e.trouble ∙ y)) (told_nothing o.seen);
         cut = λ c z y. cut_before (after (opened i ∷ []) (act (deeper p) f (at p.level a))) close
-            (ended_cut c z (sym e.trouble ∙ y));
+            (ended_cut c z (sym e.trouble ∙ y)) (told_nothing o.seen);
         fits = λ z y r. body.fits z (sym e.trouble ∙ y) r;
+        fixed = e.fixed ∙ body.fixed;
         faults = counts_then (λ t z. (body.stays t z).1) (λ t z. e.trouble ∙ z) body.faults
             (counts_same e.counts.0 (λ z y. no_trouble (lost failed) n.trouble z (sym e.trouble ∙ y)));
         refusals = counts_then (λ t z. (body.stays t z).1) (λ t z. e.trouble ∙ z) body.refusals
             (counts_same e.counts.1 (λ z y. no_trouble (lost refused) n.trouble z (sym e.trouble ∙ y)));
         stays = λ t z. (
-          e.told t (body.stays t z).1
-              ∙ (ap (λ k. n.told ++ ends k) (most_none v e.ended (d.silent t z) e.most)
-              ∙ (append-nil n.told ∙ (body.stays t z).0)),
+          told_then (body.stays t z).0
+              (subst (λ k. Told n.seen o.seen (ends k)) (most_none v e.ended (d.silent t z) e.most)
+              (e.told t (body.stays t z).1)),
           e.trouble ∙ (body.stays t z).1,
         );
       }
@@ -193,7 +193,7 @@ pub meets_event : {p : Place} {a m n o b : Page} {i : Kind} {v : Bool} {f k : Ac
 unfolding act Does
 meets_event {p} {a} {m} {n} {o} {b} {i} {v} {f} {k} d q e r =
     let
-    whole : Goes p.level a b
+    whole : Goes p a b
     (λ s. bind (bind (after (opened i ∷ []) (act (deeper p) f s)) (λ t. yes (closed ∷ []) t)) (act (deeper p) k))
     (Ready p f a.aside (at p.level a) × After (Ready p k a.aside) (act (deeper p) f (at p.level a))) =
     then_act (enclosed d q e) (enclosed_same d q e) r (λ w. w.0)

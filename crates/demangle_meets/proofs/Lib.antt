@@ -1,3 +1,4 @@
+pub mod Heard
 pub mod Told
 pub mod Goes
 pub mod Steps

@@ -1,12 +1,12 @@
 -- Levels, and what is printed for a part of a node.
-use Rattle.std.proofs.Common.{◌≡◌, ℕ, zero, suc, ◌+◌, List, [], Some, None, refl, sym, ◌∙◌, ap, subst}
+use Rattle.std.proofs.Common.{◌≡◌, ℕ, zero, suc, ◌+◌, List, [], Some, None, refl, sym, ◌∙◌, ap, subst, arith}
 use Rattle.std.proofs.lemmas.List.{append-nil}
 use Rattle.demangle_core.specs.Core.{Core, Tag, node, end}
 use Rattle.demangle_printing.specs.World.{World, nth}
 use Rattle.demangle_printing.specs.World as seen
 use Rattle.demangle_printing.specs.State.{TooMuchRecursion, State, Answer, yes, no, bind}
 use Rattle.demangle_printing.specs.Scope.{Scope}
-use Rattle.demangle_printing.specs.Act.{Job, line, Act, done, call, block, act}
+use Rattle.demangle_printing.specs.Act.{Job, line, Act, done, call, block}
 use Rattle.demangle_printing.specs.Rules.{itself, its_part, as_optional, as_handle, of_holding, optional_seen}
 use Rattle.demangle_printing.specs.Rules.{handle_seen, of_handle, of_part, line_for, line_of}
 use Rattle.demangle_printing.specs.Print.{body, entered, left_to, print}
@@ -15,32 +15,43 @@ use Rattle.demangle_meets.specs.Page.{Page, at}
 use Rattle.demangle_meets.specs.Goes.{Goes}
 use Rattle.demangle_meets.specs.Place.{Refers, world_of, Place, IsDeeper}
 use Rattle.demangle_meets.specs.Calls.{Steps}
-use Rattle.demangle_meets.specs.Meets.{deeper, Meets, Prints}
-use Rattle.demangle_meets.proofs.Told.{after_bind, stopped_before, cut_before}
+use Rattle.demangle_meets.specs.Meets.{Meets, Prints}
+use Rattle.demangle_meets.proofs.Heard.{told_nothing}
+use Rattle.demangle_meets.proofs.Told.{stopped_before, cut_before}
 use Rattle.demangle_meets.proofs.Goes.{goes_as}
 use Rattle.demangle_meets.proofs.Acts.{meets_done, meets_block, meets_job}
 
 -- ---- levels
 -- A level is entered, and left again.
-goes_deeper : {l : ℕ} {a b : Page} {g : State Core → Answer Core} {S : Type 0} (w : World Core) →
-    Goes (l + 1) a b g S → Goes l a b (λ s. bind (g (entered w s)) (left_to w s.level)) S
-goes_deeper {l} {a} {b} {g} w p =
+goes_deeper : {a b : Page} {g : State Core → Answer Core} {S : Type 0} (r : Refers) (left level : ℕ) →
+    Goes (record { refers = r; left = left; level = level + 1 }) a b g S →
+    Goes (record { refers = r; left = suc left; level = level }) a b
+    (λ s. bind (g (entered (world_of r) s)) (left_to (world_of r) s.level)) S
+goes_deeper {a} {b} {g} r left level d =
+    let
+    back : State Core → Answer Core = left_to (world_of r) level
+    in
     record {
-      done = λ n z. after_bind a.told (g (at (l + 1) a)) (left_to w l)
-          ∙ (ap (λ y. bind y (left_to w l)) (p.done n z) ∙ ap (λ m. yes m (at l b)) (append-nil b.told));
-      stopped = λ f n z. stopped_before (g (at (l + 1) a)) (left_to w l) (p.stopped f n z);
-      cut = λ c n z. cut_before (g (at (l + 1) a)) (left_to w l) (p.cut c n z);
-      fits = p.fits;
-      faults = p.faults;
-      refusals = p.refusals;
-      stays = p.stays;
+      done = λ n z. record {
+        all = (d.done n z).all;
+        is = ap (λ y. bind y back) (d.done n z).is
+            ∙ ap (λ m. yes m (at level b)) (append-nil (d.done n z).all);
+        told = (d.done n z).told;
+      };
+      stopped = λ f n z. stopped_before (g (at (level + 1) a)) back (d.stopped f n z) (told_nothing b.seen);
+      cut = λ c n z. cut_before (g (at (level + 1) a)) back (d.cut c n z) (told_nothing b.seen);
+      fits = λ n z v. let h = d.fits n z v in omega (arith, h);
+      fixed = d.fixed;
+      faults = d.faults;
+      refusals = d.refusals;
+      stays = d.stays;
     }
 
 line_at : (r : Refers) (left level : ℕ) {a b : Page} {j : Job Core} {sc : Scope Core} →
     Meets (record { refers = r; left = left; level = level + 1 }) a b (body (world_of r) j sc) →
     Meets (record { refers = r; left = suc left; level = level }) a b (call j sc done)
 unfolding print BeginsFitting
-line_at r left level d = meets_job (goes_as (λ _. refl) (λ _ v. v.1) (goes_deeper (world_of r) d.goes)) d.same
+line_at r left level d = meets_job (goes_as (λ _. refl) (λ _ v. v.1) (goes_deeper r left level d.goes)) d.same
 
 -- What is done one level deeper, by its steps.
 pub meets_line : {p q : Place} {a b : Page} {j : Job Core} {sc : Scope Core} → IsDeeper p q →
@@ -58,7 +69,7 @@ pub meets_deep : {p : Place} {a b : Page} {j : Job Core} {sc : Scope Core} → p
 unfolding print
 meets_deep {p} {a} {b} {j} {sc} e d =
     meets_job (goes_as (λ _. ap (λ n. print (world_of p.refers) n j sc (at p.level a)) e) (λ _ _. tt)
-    (d.at_level p.level)) d.same
+    (d.at_place p)) d.same
 
 -- ---- what is printed for a part
 -- A node that is neither an optional part nor a handle nor a component, by its line.

@@ -2,7 +2,7 @@
 use Rattle.std.proofs.Common.{◌≡◌, ℕ, zero, suc, Bool, true, false, List, [], ◌∷◌, length, None, refl}
 use Rattle.std.proofs.Common.{sym, ◌∙◌, ap, subst}
 use Rattle.demangle_core.specs.Core.{Core}
-use Rattle.demangle_printing.specs.State.{Held, State, Answer, yes, no, after, bind, popped}
+use Rattle.demangle_printing.specs.State.{Held, State, Answer, yes, bind, popped}
 use Rattle.demangle_printing.specs.Scope.{Scope}
 use Rattle.demangle_printing.specs.Act.{Job, Act, done, call, sift, act, keeping, returned, sifted_item, sifted_from}
 use Rattle.demangle_printing.specs.Act.{sifted}
@@ -20,10 +20,10 @@ use Rattle.demangle_meets.proofs.Acts.{keeps_then, job_meets}
 item_at : (p : Place) (is_kept : Core → Bool) (doing : Core → Job Core × Scope Core) (n : ℕ) {a b : Page}
     {v : Bool} {h : Held Core} {hs : List (Held Core)} →
     (a.trouble ≡ None → a.inner ≡ h ∷ hs) → is_kept h.item ≡ v →
-    Goes p.level a b (sifted_item (deeper p) doing h v (sifted (deeper p) is_kept doing n))
+    Goes p a b (sifted_item (deeper p) doing h v (sifted (deeper p) is_kept doing n))
     (SiftsItem (deeper p) (fitting p) doing a.aside h v
     (SiftsAll (deeper p) (fitting p) is_kept doing a.aside n) (at p.level a)) →
-    Goes p.level a b (sifted (deeper p) is_kept doing (suc n))
+    Goes p a b (sifted (deeper p) is_kept doing (suc n))
     (SiftsAll (deeper p) (fitting p) is_kept doing a.aside (suc n) (at p.level a))
 item_at p is_kept doing n {a} {b} {v} {h} {hs} top is d =
     let
@@ -41,13 +41,13 @@ item_at p is_kept doing n {a} {b} {v} {h} {hs} top is d =
 item_done : (p : Place) (doing : Core → Job Core × Scope Core) (h : Held Core) {a m c : Page} →
     Steps a m (λ s. yes [] (popped s)) →
     Meets p m c (call (doing h.item).0 (doing h.item).1 done) →
-    Goes p.level a c (λ s. deeper p (doing h.item).0 (doing h.item).1 (popped s))
+    Goes p a c (λ s. deeper p (doing h.item).0 (doing h.item).1 (popped s))
     (fitting p a.aside (doing h.item).0 (doing h.item).1 (popped (at p.level a)))
 item_done p doing h {a} {m} {c} d q =
     goes_as (λ _. sym (after_none _)) (λ _ r. r)
-    (goes_then (d.at_level p.level) (job_meets q) (λ _. tt)
+    (goes_then (d.at_place p) (job_meets q) (λ _. tt)
     (λ z y r. subst (λ u. fitting p u (doing h.item).0 (doing h.item).1 (at p.level m)) (sym (d.same.is z y))
-    (goes_after (fitting p a.aside (doing h.item).0 (doing h.item).1) (d.at_level p.level) z y r)))
+    (goes_after (fitting p a.aside (doing h.item).0 (doing h.item).1) (d.at_place p) z y r)))
 
 module _ {p : Place} {is_kept : Core → Bool} {doing : Core → Job Core × Scope Core} where
   -- no item is left, or as many were done as there were
@@ -71,12 +71,12 @@ module _ {p : Place} {is_kept : Core → Bool} {doing : Core → Job Core × Sco
   sifts_kept {a} {m} {b} {n} {h} {hs} top is d q =
       record {
         goes = item_at p is_kept doing n top is (goes_as (λ _. sym (after_none _)) (λ _ r. r)
-            (goes_then d.goes q.goes
+            (goes_then (d.at_place p refl) q.goes
             (λ (r : IsReady a.aside (at p.level a)
             × SiftsAll (deeper p) (fitting p) is_kept doing a.aside n (keeping h (at p.level a))). r.0)
             (λ z y r. subst (λ u. SiftsAll (deeper p) (fitting p) is_kept doing u n (at p.level m))
             (sym (d.same.is z y))
-            (goes_after (SiftsAll (deeper p) (fitting p) is_kept doing a.aside n) d.goes z y r.1))));
+            (goes_after (SiftsAll (deeper p) (fitting p) is_kept doing a.aside n) (d.at_place p refl) z y r.1))));
         same = keeps_then d.same q.goes q.same;
       }
 
@@ -127,14 +127,14 @@ meets_sift {p} {a} {m} {n} {b} {is_kept} {doing} {k} d e q =
     Behind : List (Held Core) → State Core → Type 0 = λ u t. IsReady u (back t) × Ready p k u (back t)
     in
     let
-    behind : Goes p.level m b (λ t. act (deeper p) k (back t)) (Behind m.aside (at p.level m)) =
+    behind : Goes p m b (λ t. act (deeper p) k (back t)) (Behind m.aside (at p.level m)) =
     goes_as (λ _. sym (after_none _)) (λ _ v. v)
-    (goes_then e.goes q.goes (λ (v : Behind m.aside (at p.level m)). v.0)
+    (goes_then (e.at_place p refl) q.goes (λ (v : Behind m.aside (at p.level m)). v.0)
     (λ z y v. subst (λ u. Ready p k u (at p.level n)) (sym (e.same.is z y))
-    (goes_after (Ready p k m.aside) e.goes z y v.1)))
+    (goes_after (Ready p k m.aside) (e.at_place p refl) z y v.1)))
     in
     let
-    whole : Goes p.level a b
+    whole : Goes p a b
     (λ s. bind (sifted (deeper p) is_kept doing (length a.inner) s) (λ t. act (deeper p) k (back t)))
     (SiftsAll (deeper p) (fitting p) is_kept doing a.aside (length a.inner) (at p.level a)
     × After (Behind a.aside) (sifted (deeper p) is_kept doing (length a.inner) (at p.level a))) =
@@ -143,5 +143,5 @@ meets_sift {p} {a} {m} {n} {b} {is_kept} {doing} {k} d e q =
     in
     record {
       goes = goes_as (λ _. refl) (λ _ v. v) whole;
-      same = keeps_then (keeps_then d.same e.goes e.same) q.goes q.same;
+      same = keeps_then (keeps_then d.same (e.at_place p refl) e.same) q.goes q.same;
     }

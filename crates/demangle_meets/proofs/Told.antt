@@ -1,11 +1,13 @@
 -- Answers one after the other, and what a listener was told of them.
-use Rattle.std.proofs.Common.{◌≡◌, ℕ, suc, ◌+◌, ◌≤◌, List, [], ◌∷◌, ◌++◌, Option, Some, None, refl, sym, ◌∙◌}
+use Rattle.std.proofs.Common.{◌≡◌, ℕ, suc, ◌≤◌, List, [], ◌∷◌, ◌++◌, Option, Some, None, refl, sym, ◌∙◌}
 use Rattle.std.proofs.Common.{ap, subst, arith}
 use Rattle.std.proofs.lemmas.List.{append_assoc}
 use Rattle.demangle_core.specs.Core.{Core}
 use Rattle.demangle_printing.specs.State.{Event, byte, opened, closed, Fault, State, Answer, yes, no, after, bind}
 use Rattle.demangle_printing.specs.Laws.{open_behind, closes, After}
-use Rattle.demangle_meets.specs.Goes.{events, ends, StandOpen, Stopped, Cut}
+use Rattle.demangle_meets.specs.Seen.{Seen, Told}
+use Rattle.demangle_meets.specs.Goes.{Whole, events, ends, StandOpen, Stopped, Cut}
+use Rattle.demangle_meets.proofs.Heard.{told_then, told_silent}
 
 -- ---- answers
 pub after_after : {X : Type 0} (m n : List Event) (x : Answer X) → after m (after n x) ≡ after (m ++ n) x
@@ -21,26 +23,22 @@ pub after_bind : {X : Type 0} (m : List Event) (x : Answer X) (go : State X → 
 after_bind m (yes k s) go = after_after m k (go s)
 after_bind m (no k f) go = refl
 
--- The events of an answer, and its state.
-pub record Yes {X : Type 0} (x : Answer X) (old new : List Event) (s : State X) : Type 0 where
-  pub told : List Event
-  pub is : x ≡ yes told s
-  pub grown : new ≡ old ++ told
+-- What holds behind an answer holds of the state that it leaves.
+pub whole_after : {old new : Seen} (P : State Core → Type 0) (x : Answer Core) (s : State Core) → Whole old new x s →
+    After P x → P s
+whole_after P x s w p = subst (After P) w.is p
 
-pub yes_of : {X : Type 0} (x : Answer X) (old new : List Event) (s : State X) → after old x ≡ yes new s →
-    Yes x old new s
-yes_of (yes k t) old new s e =
+pub whole_then : {old mid new : Seen} {x : Answer Core} {s t : State Core} (go : State Core → Answer Core) →
+    Whole old mid x s → Whole mid new (go s) t → Whole old new (bind x go) t
+whole_then go p q =
     record {
-      told = k;
-      is = ap (yes k) (let same : yes (old ++ k) t ≡ yes new s = e in cc);
-      grown = let same : yes (old ++ k) t ≡ yes new s = e in cc;
+      all = p.all ++ q.all;
+      is = ap (λ y. bind y go) p.is ∙ ap (after p.all) q.is;
+      told = told_then p.told q.told;
     }
-yes_of (no k f) old new s e = absurd (let same : no (old ++ k) f ≡ yes new s = e in cc)
 
-pub yes_after : {X : Type 0} (P : State X → Type 0) (x : Answer X) (old new : List Event) (s : State X) →
-    after old x ≡ yes new s → After P x → P s
-yes_after P (yes k t) old new s e p = subst P (let same : yes (old ++ k) t ≡ yes new s = e in cc) p
-yes_after P (no k f) old new s e p = absurd (let same : no (old ++ k) f ≡ yes new s = e in cc)
+pub whole_as : {old new : Seen} {x y : Answer Core} {s : State Core} → y ≡ x → Whole old new x s → Whole old new y s
+whole_as e w = record { all = w.all; is = e ∙ w.is; told = w.told }
 
 -- ---- events
 pub events_after : {X : Type 0} (m : List Event) (x : Answer X) → events (after m x) ≡ m ++ events x
@@ -70,66 +68,60 @@ pub stand_behind : (d : ℕ) (m k : List Event) → StandOpen d k → StandOpen 
 stand_behind d m k p n j e = stand_from d k (open_behind m (Some n)) j p (sym (open_then m k (Some n)) ∙ e)
 
 -- ---- what was told behind what had been told
-pub stopped_behind : {x y : Answer Core} {old mid new : List Event} {f : Fault} (k : List Event) → y ≡ after k x →
-    mid ≡ old ++ k → Stopped mid new x f → Stopped old new y f
-stopped_behind {old = old} {f = f} k e grown p =
+pub stopped_behind : {x y : Answer Core} {old mid new : Seen} {f : Fault} (k : List Event) → y ≡ after k x →
+    Told old mid k → Stopped mid new x f → Stopped old new y f
+stopped_behind {old = old} {new = new} k e told p =
     record {
       before = k ++ p.before;
       ended = p.ended;
       is = e ∙ ap (after k) p.is;
-      told = p.told
-          ∙ (ap (λ z. z ++ (p.before ++ ends p.ended)) grown
-          ∙ (append_assoc old k (p.before ++ ends p.ended)
-          ∙ ap (λ z. old ++ z) (sym (append_assoc k p.before (ends p.ended)))));
+      told = subst (Told old new) (sym (append_assoc k p.before (ends p.ended))) (told_then told p.told);
       were_open = stand_behind p.ended k p.before p.were_open;
     }
 
-pub cut_behind : {x y : Answer Core} {old mid new : List Event} (k : List Event) → y ≡ after k x →
-    mid ≡ old ++ k → Cut mid new x → Cut old new y
-cut_behind {x = x} {old = old} k e grown p =
+pub cut_behind : {x y : Answer Core} {old mid new : Seen} (k : List Event) → y ≡ after k x → Told old mid k →
+    Cut mid new x → Cut old new y
+cut_behind {x = x} {old = old} {new = new} k e told p =
     record {
       front = k ++ p.front;
       others = p.others;
       ended = p.ended;
       is = ap events e ∙ (events_after k x ∙ (ap (λ z. k ++ z) p.is ∙ sym (append_assoc k p.front p.others)));
-      told = p.told
-          ∙ (ap (λ z. z ++ (p.front ++ ends p.ended)) grown
-          ∙ (append_assoc old k (p.front ++ ends p.ended)
-          ∙ ap (λ z. old ++ z) (sym (append_assoc k p.front (ends p.ended)))));
+      told = subst (Told old new) (sym (append_assoc k p.front (ends p.ended))) (told_then told p.told);
       were_open = stand_behind p.ended k p.front p.were_open;
     }
 
--- What was told of the first of two is a front of what is told of both.
-pub cut_before : {old new : List Event} (x : Answer Core) (go : State Core → Answer Core) → Cut old new x →
-    Cut old new (bind x go)
-cut_before (yes m s) go p =
+-- What was told of the first of two is a front of what is told of both, where nothing is told of the second.
+pub cut_before : {old mid new : Seen} (x : Answer Core) (go : State Core → Answer Core) → Cut old mid x →
+    Told mid new [] → Cut old new (bind x go)
+cut_before (yes m s) go p q =
     record {
       front = p.front;
       others = p.others ++ events (go s);
       ended = p.ended;
       is = events_after m (go s)
           ∙ (ap (λ z. z ++ events (go s)) p.is ∙ append_assoc p.front p.others (events (go s)));
-      told = p.told;
+      told = told_silent p.told q;
       were_open = p.were_open;
     }
-cut_before (no m f) go p =
+cut_before (no m f) go p q =
     record {
       front = p.front;
       others = p.others;
       ended = p.ended;
       is = p.is;
-      told = p.told;
+      told = told_silent p.told q;
       were_open = p.were_open;
     }
 
 -- The fault of the first of two is that of both.
-pub stopped_before : {old new : List Event} {f : Fault} (x : Answer Core) (go : State Core → Answer Core) →
-    Stopped old new x f → Stopped old new (bind x go) f
-stopped_before x go p =
+pub stopped_before : {old mid new : Seen} {f : Fault} (x : Answer Core) (go : State Core → Answer Core) →
+    Stopped old mid x f → Told mid new [] → Stopped old new (bind x go) f
+stopped_before x go p q =
     record {
       before = p.before;
       ended = p.ended;
       is = ap (λ z. bind z go) p.is;
-      told = p.told;
+      told = told_silent p.told q;
       were_open = p.were_open;
     }

@@ -1,11 +1,19 @@
 -- The one relation between two pages: from the first to the second this was done, whole or up to the first trouble.
-use Rattle.std.specs.Prelude.{◌≡◌, ℕ, zero, suc, ◌≤◌, ◌<◌, ◌⊎◌, List, [], ◌∷◌, ◌++◌, Option, Some, None}
+use Rattle.std.specs.Prelude.{◌≡◌, ℕ, zero, suc, ◌+◌, ◌≤◌, ◌<◌, ◌⊎◌, List, [], ◌∷◌, ◌++◌, Option, Some, None}
 use Rattle.demangle_core.specs.Core.{Core}
-use Rattle.demangle_printing.specs.State.{Event, closed, Fault, State, Answer, yes, no, after}
+use Rattle.demangle_printing.specs.State.{Event, closed, Fault, State, Answer, yes, no}
 use Rattle.demangle_printing.specs.Laws.{open_behind}
+use Rattle.demangle_meets.specs.Seen.{Seen, Told}
 use Rattle.demangle_meets.specs.Page.{Page, Trouble, fault, lost, Loss, failed, refused, full, at}
+use Rattle.demangle_meets.specs.Place.{Place}
 
--- ---- what a listener was told at trouble
+-- ---- what a listener was told
+-- All of it, and this is the state that is left.
+pub record Whole (old new : Seen) (x : Answer Core) (s : State Core) : Type 0 where
+  pub all : List Event
+  pub is : x ≡ yes all s
+  pub told : Told old new all
+
 -- so many nodes end
 abbrev pub ends : ℕ → List Event
 ends zero = []
@@ -20,20 +28,20 @@ events (yes m s) = m
 events (no m f) = m
 
 -- The events before the fault, and then ends of nodes, no more than stood open.
-pub record Stopped (old new : List Event) (x : Answer Core) (f : Fault) : Type 0 where
+pub record Stopped (old new : Seen) (x : Answer Core) (f : Fault) : Type 0 where
   pub before : List Event
   pub ended : ℕ
   pub is : x ≡ no before f
-  pub told : new ≡ old ++ (before ++ ends ended)
+  pub told : Told old new (before ++ ends ended)
   pub were_open : StandOpen ended before
 
 -- A front of the events, and then ends of nodes, no more than stood open.
-pub record Cut (old new : List Event) (x : Answer Core) : Type 0 where
+pub record Cut (old new : Seen) (x : Answer Core) : Type 0 where
   pub front : List Event
   pub others : List Event
   pub ended : ℕ
   pub is : events x ≡ front ++ others
-  pub told : new ≡ old ++ (front ++ ends ended)
+  pub told : Told old new (front ++ ends ended)
   pub were_open : StandOpen ended front
 
 -- ---- the listener's counts
@@ -52,15 +60,18 @@ pub record Counts (why : Loss) (old new : ℕ) (before now : Option Trouble) : T
   pub stays : (t : Trouble) → before ≡ Some t → new ≡ old
 
 -- ---- the relation
--- From a to b at level l this was done. Without trouble all of it was told behind what had been told, and b is the
--- state that it leaves. Where it met a fault, the events before the fault were told; where something was lost, a front
--- of all of them. After trouble nothing is told, and the trouble stays. A stack has no room only where an item was put
--- on it at a level that isn't above those of all items: `ready` says that it is above them wherever that is done.
-pub record Goes (l : ℕ) (a b : Page) (go : State Core → Answer Core) (ready : Type 0) : Type 0 where
-  pub done : a.trouble ≡ None → b.trouble ≡ None → after a.told (go (at l a)) ≡ yes b.told (at l b)
-  pub stopped : (f : Fault) → a.trouble ≡ None → b.trouble ≡ Some (fault f) → Stopped a.told b.told (go (at l a)) f
-  pub cut : (c : Loss) → a.trouble ≡ None → b.trouble ≡ Some (lost c) → Cut a.told b.told (go (at l a))
-  pub fits : a.trouble ≡ None → b.trouble ≡ Some (lost full) → ready → ⊥
-  pub faults : Counts failed a.faults b.faults a.trouble b.trouble
-  pub refusals : Counts refused a.refusals b.refusals a.trouble b.trouble
-  pub stays : (t : Trouble) → a.trouble ≡ Some t → (b.told ≡ a.told) × (b.trouble ≡ Some t)
+-- From a to b, at a place, this was done. Without trouble the listener was told all of it, and b is the state that it
+-- leaves. Where it met a fault, the events before the fault were told; where something was lost, a front of all of
+-- them. After trouble nothing is told, and the trouble stays. A stack has no room only where an item was put on it at a
+-- level that isn't above those of all items (`ready` says that it is above them wherever that is done), or where there
+-- are more levels than the stacks have room for.
+pub record Goes (p : Place) (a b : Page) (go : State Core → Answer Core) (ready : Type 0) : Type 0 where
+  pub done : a.trouble ≡ None → b.trouble ≡ None → Whole a.seen b.seen (go (at p.level a)) (at p.level b)
+  pub stopped : (f : Fault) → a.trouble ≡ None → b.trouble ≡ Some (fault f) →
+      Stopped a.seen b.seen (go (at p.level a)) f
+  pub cut : (c : Loss) → a.trouble ≡ None → b.trouble ≡ Some (lost c) → Cut a.seen b.seen (go (at p.level a))
+  pub fits : a.trouble ≡ None → b.trouble ≡ Some (lost full) → ready → a.fixed.reserved ≤ p.level + p.left
+  pub fixed : b.fixed ≡ a.fixed
+  pub faults : Counts failed a.seen.faults b.seen.faults a.trouble b.trouble
+  pub refusals : Counts refused a.seen.refusals b.seen.refusals a.trouble b.trouble
+  pub stays : (t : Trouble) → a.trouble ≡ Some t → Told a.seen b.seen [] × (b.trouble ≡ Some t)

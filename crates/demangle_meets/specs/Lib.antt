@@ -1,6 +1,7 @@
+pub mod Seen
 pub mod Page
-pub mod Goes
 pub mod Place
+pub mod Goes
 pub mod Calls
 pub mod Meets
 pub mod Laws

@@ -27,7 +27,7 @@ Ready p f = Does (deeper p) (fitting p) f
 
 -- From a to b the act was done at a place.
 pub record Meets (p : Place) (a b : Page) (f : Act Core) : Type 0 where
-  pub goes : Goes p.level a b (act (deeper p) f) (Ready p f a.aside (at p.level a))
+  pub goes : Goes p a b (act (deeper p) f) (Ready p f a.aside (at p.level a))
   pub same : Keeps a b
 
 -- The line of a part: of what an optional part holds, of what a handle holds or refers to, of what a component holds.
@@ -40,14 +40,14 @@ pub record Inner (p : Place) (a b : Page) (x : Core) (sc : Scope Core) : Type 0 
 
 -- Where the item that was pushed at this level is on top, it is popped, and its own act done.
 pub record Closes (p : Place) (a b : Page) (own : Act Core) : Type 0 where
-  pub goes : Goes p.level a b (λ t. owned (deeper p) (is_own t) (act (deeper p) own) t)
+  pub goes : Goes p a b (λ t. owned (deeper p) (is_own t) (act (deeper p) own) t)
       (OwnDoes (deeper p) (fitting p) (is_own (at p.level a)) (Ready p own a.aside) (at p.level a))
   pub same : Keeps a b
 
 -- At most so many items are done or kept, from the top.
 pub record Sifts (p : Place) (a b : Page) (is_kept : Core → Bool) (doing : Core → Job Core × Scope Core) (n : ℕ)
     : Type 0 where
-  pub goes : Goes p.level a b (sifted (deeper p) is_kept doing n)
+  pub goes : Goes p a b (sifted (deeper p) is_kept doing n)
       (SiftsAll (deeper p) (fitting p) is_kept doing a.aside n (at p.level a))
   pub same : Keeps a b
 

@@ -1,8 +1,10 @@
 -- What contracts see of a context of printing: the state without its level, which lines hold by value; the items that
--- are set aside; what the listener was told, and its counts; and the first trouble.
+-- are set aside; what is seen of the listener; and the first trouble.
 use Rattle.std.specs.Prelude.{ℕ, List, Option}
 use Rattle.demangle_core.specs.Core.{Core}
-use Rattle.demangle_printing.specs.State.{Event, Fault, Held, Flags, State}
+use Rattle.demangle_printing.specs.State.{Fault, Held, Flags, State}
+use Rattle.demangle_meets.specs.Seen.{Seen}
+use Rattle.demangle_meets.specs.Place.{Refers}
 
 -- What is lost where it has nothing to do with the name: the listener failed; it had no memory; a stack of items had
 -- no room.
@@ -14,6 +16,16 @@ pub data Trouble : Type 0 where
   fault : Fault → Trouble
   lost : Loss → Trouble
 
+-- What stays as it is while one prints: for how many items each stack has room from the beginning; the context's own
+-- level and limit; what the trees refer to; the references to the listener and to the context, by their names.
+pub record Fixed : Type 0 where
+  pub reserved : ℕ
+  pub level : ℕ
+  pub limit : ℕ
+  pub refers : Refers
+  pub listener : ℕ
+  pub context : ℕ
+
 -- Items stand newest first; those that are set aside last are the first of `aside`.
 pub record Page : Type 0 where
   pub inner : List (Held Core)
@@ -23,9 +35,8 @@ pub record Page : Type 0 where
   pub source : Option (List ℕ)
   pub flags : Flags
   pub room : Option ℕ
-  pub told : List Event
-  pub faults : ℕ  -- how often the listener failed
-  pub refusals : ℕ  -- how often it had no memory
+  pub fixed : Fixed
+  pub seen : Seen
   pub trouble : Option Trouble
 
 -- The state at a level.

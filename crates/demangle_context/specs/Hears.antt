@@ -1,32 +1,12 @@
--- What contracts see of a listener, and what its calls change.
-use Rattle.std.specs.Prelude.{◌≡◌, ℕ, ◌<◌, ◌≤◌, List, [], ◌∷◌, ◌++◌, map, length, Option, Some, None}
-use Rattle.demangle_printing.specs.State.{Kind, Event, byte, opened, closed}
-use Rattle.demangle_printing.specs.Outcome.{text_of}
+-- What the calls of a listener change of what is seen of it.
+use Rattle.std.specs.Prelude.{◌≡◌, ℕ, ◌≤◌, List, [], ◌∷◌, Option, Some, None}
+use Rattle.demangle_meets.specs.Seen.{Call, piece, begins, ends, Seen, Grows}
 use Rattle.demangle_meets.specs.Goes.{Rose}
 use Rattle.demangle_context.specs.declared.error.SinkFault.{SinkFault}
 use Rattle.demangle_context.specs.declared.error.SinkFault.TheVariants as fault
 
--- A call of a listener: a piece of text, a node begins, the last node that began ends.
-pub data Call : Type 0 where
-  piece : List ℕ → Call
-  begins : Kind → Call
-  ends : Call
-
--- The text as one and the calls, each where the listener tells it; how often it failed, and how often it had no memory.
-pub record Seen : Type 0 where
-  pub text : Option (List ℕ)
-  pub calls : Option (List Call)
-  pub faults : ℕ
-  pub refusals : ℕ
-
 -- ---- one call
--- A list that is told afterwards was told before, and has these more.
-abbrev pub Grows : {A : Type 0} → (old new : Option (List A)) → List A → Type 0
-Grows old None more = Unit {0}
-Grows None (Some ys) more = ⊥
-Grows (Some xs) (Some ys) more = ys ≡ xs ++ more
-
--- And it is the same.
+-- A list that is told afterwards was told before, and is the same.
 abbrev pub Stays : {A : Type 0} → (old new : Option (List A)) → Type 0
 Stays old None = Unit {0}
 Stays None (Some ys) = ⊥
@@ -72,25 +52,3 @@ Refuses old new fault.OutOfMemory = LacksMemory old new
 abbrev pub HearsText : (old new : Seen) → List ℕ → Type 0
 HearsText old new [] = new ≡ old
 HearsText old new (b ∷ bs) = Hears old new (piece (b ∷ bs))
-
--- ---- many calls
-abbrev pub events_of : List Call → List Event
-events_of [] = []
-events_of (piece bs ∷ cs) = map byte bs ++ events_of cs
-events_of (begins k ∷ cs) = opened k ∷ events_of cs
-events_of (ends ∷ cs) = closed ∷ events_of cs
-
--- no piece is empty
-abbrev pub HaveText : List Call → Type 0
-HaveText [] = Unit {0}
-HaveText (piece bs ∷ cs) = (0 < length bs) × HaveText cs
-HaveText (begins k ∷ cs) = HaveText cs
-HaveText (ends ∷ cs) = HaveText cs
-
--- It was told these events, in calls of which no piece is empty.
-pub record Told (old new : Seen) (m : List Event) : Type 0 where
-  pub calls : List Call
-  pub are : events_of calls ≡ m
-  pub have_text : HaveText calls
-  pub text : Grows old.text new.text (text_of m)
-  pub heard : Grows old.calls new.calls calls
