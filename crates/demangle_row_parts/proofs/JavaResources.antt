@@ -1,0 +1,121 @@
+-- The name of a Java resource: a number, and over just so many bytes `_` and the parts of the name.
+use Rattle.std.proofs.Common.{cond, ◌≡◌, ℕ, zero, suc, ◌+◌, ◌-◌, ◌≤◌, ◌==◌, ◌&&◌, Bool, true, false, List, [], ◌∷◌}
+use Rattle.std.proofs.Common.{◌++◌, length, take, drop, codes, nat_eq, nat_lt, refl, ap, sym, ◌∙◌, subst, arith}
+use Rattle.std.proofs.Common.{Result, Ok, Err}
+use Rattle.demangle_core.specs.Core.{Core, Tag, node, end}
+use Rattle.demangle_core.specs.Table.{Table}
+use Rattle.demangle_text.specs.Kind.{Kind, Unread, Text, End, ends}
+use Rattle.demangle_text.specs.Number.{natural_from}
+use Rattle.demangle_text.specs.Spot.{Spot, skip, front, IsSplit}
+use Rattle.demangle_text.specs.Word.{starts, word_at}
+use Rattle.demangle_grammar.specs.Reading.{is_empty}
+use Rattle.demangle_grammar.specs.Rule.{Row}
+use Rattle.demangle_grammar.specs.Code.{joined, Here, here, Reply, Found, Refused, Out, Yes, No, and_then, and_again}
+use Rattle.demangle_grammar.specs.Code.{from_row, unless_ends, one_row, many, all_of, rows_of, rows_at, all_at, cread}
+use Rattle.demangle_grammar.proofs.CodeLaws as laws
+use Rattle.demangle_forms.specs.SpecialForms.{java_resource_at}
+
+-- ---- the index goes with the bytes
+-- behind a part
+abbrev Keeps : Spot → Out → Type 0
+Keeps p (Yes m b) = p.index + length p.left ≡ m.spot.index + length m.spot.left
+Keeps p (No h k) = Unit {0}
+
+many_keep : (f : ℕ) (c : Bool) (r : Row) (n : ℕ) (p : Spot) (s : Here) (acc : List Core)
+    → p.index + length p.left ≡ s.spot.index + length s.spot.left → Keeps p (many (one_row (cread f) c r) n s acc)
+unfolding many
+many_keep f c r zero p s acc h = h
+many_keep f c r (suc n) p s acc h = by (cread f r c s []) refl (λ q b l. many_keep f c r n p q b l)
+  where
+    ended : (z : Bool) (k : Kind) → Keeps p (unless_ends z k (λ u. Yes s acc))
+    ended true k = tt
+    ended false k = h
+
+    by : (a : Reply) → cread f r c s [] ≡ a
+        → ((q : Here) (b : List Core) → p.index + length p.left ≡ q.spot.index + length q.spot.left
+        → Keeps p (many (one_row (cread f) c r) n q b))
+        → Keeps p
+        (and_again (from_row a (λ m t. Yes m (acc ++ t ∷ []))) (λ q b. many (one_row (cread f) c r) n q b) (Yes s acc))
+    by (Found t m) e next = next m (acc ++ t ∷ []) (h ∙ laws.index_kept f r c s m [] t e)
+    by (Refused k) e next = ended (ends k) k
+
+several_keep : (p : Spot) (o : Out) → Keeps p o
+    → Keeps p (and_then o (λ m b. Yes m (node Tag.Several (joined b) end ∷ [])))
+several_keep p (Yes m b) h = h
+several_keep p (No h k) l = tt
+
+all_keep : (f : ℕ) (c : Bool) (r : Row) (s : Here) → Keeps s.spot (all_at (cread f) c r s)
+unfolding all_at rows_at rows_of all_of
+all_keep f c r s =
+    several_keep s.spot (many (one_row (cread f) c r) (suc (length s.spot.left)) s [])
+    (many_keep f c r (suc (length s.spot.left)) s.spot s [] refl)
+
+names_keep : (f : ℕ) (c : Bool) (p q : Spot) (e : Table) (b : List Core)
+    → all_at (cread f) c Row.resource_name (here p e) ≡ Yes (here q e) b
+    → p.index + length p.left ≡ q.index + length q.left
+names_keep f c p q e b h = subst (Keeps p) h (all_keep f c Row.resource_name (here p e))
+
+-- behind the byte before the parts
+mark_keeps : (p q : Spot) → word_at (codes "_") p ≡ Ok q → p.index + length p.left ≡ q.index + length q.left
+unfolding word_at
+mark_keeps p q = by p.left _
+  where
+    by : (bs : List ℕ) (c : Kind)
+        → cond (starts (codes "_") bs) (Ok (record { index = p.index + 1; left = drop 1 bs })) (Err c) ≡ Ok q
+        → p.index + length bs ≡ q.index + length q.left
+    by [] c e = absurd (cc)
+    by (b ∷ bs) c e = byte (95 == b) e
+      where
+        byte : (z : Bool) → cond (z && true) (Ok (record { index = p.index + 1; left = bs })) (Err c) ≡ Ok q
+            → p.index + length (b ∷ bs) ≡ q.index + length q.left
+        byte true e =
+            let k : record { index = p.index + 1; left = bs } ≡ q = cc in
+            subst (λ s. p.index + length (b ∷ bs) ≡ s.index + length s.left) k (omega arith)
+        byte false e = absurd (cc)
+
+-- ---- what the code knows behind the number: so many bytes stand there, and they are cut off
+pub record IsCut (p first second : Spot) : Type 0 where
+  pub size : ℕ
+  pub behind : Spot
+  pub number : natural_from 10 p ≡ Ok (size, behind)
+  pub some : nat_eq size 0 ≡ false
+  pub enough : nat_lt (length behind.left) size ≡ false
+  pub first_is : first ≡ front size behind
+  pub second_is : second.left ≡ drop size behind.left
+  pub joins : first.index + length first.left ≡ second.index
+
+pub no_mark : (n : ℕ) (c : Bool) (p first second : Spot) (k : Kind) → IsCut p first second
+    → word_at (codes "_") first ≡ Err k
+    → (table : Table) → java_resource_at (cread n) c (here p table) ≡ Refused k
+unfolding java_resource_at
+no_mark n c p first second k h e table = let w = rw h.first_is at e in
+    rw (h.number, h.some, h.enough, w) refl
+
+pub no_names : (n : ℕ) (c : Bool) (p first second m : Spot) (z : Bool) (k : Kind) (table : Table)
+    → IsCut p first second → word_at (codes "_") first ≡ Ok m
+    → all_at (cread n) c Row.resource_name (here m table) ≡ No z k
+    → java_resource_at (cread n) c (here p table) ≡ Refused k
+unfolding java_resource_at
+no_names n c p first second m z k table h e names = let w = rw h.first_is at e in
+    rw (h.number, h.some, h.enough, w, names) refl
+
+pub bytes_left : (n : ℕ) (c : Bool) (p first second m r : Spot) (b : List Core) (table : Table)
+    → IsCut p first second → word_at (codes "_") first ≡ Ok m
+    → all_at (cread n) c Row.resource_name (here m table) ≡ Yes (here r table) b → is_empty r.left ≡ false
+    → java_resource_at (cread n) c (here p table) ≡ Refused (Unread Text)
+unfolding java_resource_at
+bytes_left n c p first second m r b table h e names l = let w = rw h.first_is at e in
+    rw (h.number, h.some, h.enough, w, names, l) refl
+
+pub resource_found : (n : ℕ) (c : Bool) (p first second m r : Spot) (t : Core) (table : Table)
+    → IsCut p first second → word_at (codes "_") first ≡ Ok m
+    → all_at (cread n) c Row.resource_name (here m table) ≡ Yes (here r table) (t ∷ []) → r.left ≡ []
+    → java_resource_at (cread n) c (here p table) ≡ Found (node Tag.SpecialNameJavaResource t end) (here second table)
+unfolding java_resource_at
+resource_found n c p first second m r t table h e names l =
+    let w = rw h.first_is at e in
+    let a : m.index + length m.left ≡ r.index + length r.left = names_keep n c m r table (t ∷ []) names in
+    let b : first.index + length first.left ≡ m.index + length m.left = mark_keeps first m e in
+    let d : length r.left ≡ 0 = ap length l in
+    let i : r.index ≡ second.index = omega (arith, h.joins) in
+    rw (h.number, h.some, h.enough, w, names, l, i, ← h.second_is) refl
