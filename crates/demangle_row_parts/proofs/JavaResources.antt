@@ -1,14 +1,13 @@
 -- The name of a Java resource: a number, and over just so many bytes `_` and the parts of the name.
-use Rattle.std.proofs.Common.{cond, ◌≡◌, ℕ, zero, suc, ◌+◌, ◌-◌, ◌≤◌, ◌==◌, ◌&&◌, Bool, true, false, List, [], ◌∷◌}
-use Rattle.std.proofs.Common.{◌++◌, length, take, drop, codes, nat_eq, nat_lt, refl, ap, sym, ◌∙◌, subst, arith}
-use Rattle.std.proofs.Common.{Result, Ok, Err}
+use Rattle.std.proofs.Common.{cond, ◌≡◌, ℕ, zero, suc, ◌+◌, ◌<◌, ◌≤◌, ◌==◌, ◌&&◌, nat_eq, nat_lt, Bool, true, false}
+use Rattle.std.proofs.Common.{List, [], ◌∷◌, ◌++◌, length, drop, codes, refl, ap, ◌∙◌, subst, arith, Ok, Err}
+use Rattle.std.proofs.lemmas.Bool.Decides.{nat_tests}
 use Rattle.demangle_core.specs.Core.{Core, Tag, node, end}
 use Rattle.demangle_core.specs.Table.{Table}
-use Rattle.demangle_text.specs.Kind.{Kind, Unread, Text, End, ends}
+use Rattle.demangle_text.specs.Kind.{Kind, ends}
 use Rattle.demangle_text.specs.Number.{natural_from}
-use Rattle.demangle_text.specs.Spot.{Spot, skip, front, IsSplit}
+use Rattle.demangle_text.specs.Spot.{Spot, front, IsSplit}
 use Rattle.demangle_text.specs.Word.{starts, word_at}
-use Rattle.demangle_grammar.specs.Reading.{is_empty}
 use Rattle.demangle_grammar.specs.Rule.{Row}
 use Rattle.demangle_grammar.specs.Code.{joined, Here, here, Reply, Found, Refused, Out, Yes, No, and_then, and_again}
 use Rattle.demangle_grammar.specs.Code.{from_row, unless_ends, one_row, many, all_of, rows_of, rows_at, all_at, cread}
@@ -73,39 +72,25 @@ mark_keeps p q = by p.left _
             subst (λ s. p.index + length (b ∷ bs) ≡ s.index + length s.left) k (omega arith)
         byte false e = absurd (cc)
 
--- ---- what the code knows behind the number: so many bytes stand there, and they are cut off
+-- ---- a number, and behind it so many bytes, which are cut off
 pub record IsCut (p first second : Spot) : Type 0 where
   pub size : ℕ
   pub behind : Spot
   pub number : natural_from 10 p ≡ Ok (size, behind)
-  pub some : nat_eq size 0 ≡ false
-  pub enough : nat_lt (length behind.left) size ≡ false
-  pub first_is : first ≡ front size behind
-  pub second_is : second.left ≡ drop size behind.left
+  pub some : 0 < size
+  pub enough : size ≤ length behind.left
+  pub split : IsSplit size behind first second
   pub joins : first.index + length first.left ≡ second.index
 
-pub no_mark : (n : ℕ) (c : Bool) (p first second : Spot) (k : Kind) → IsCut p first second
-    → word_at (codes "_") first ≡ Err k
-    → (table : Table) → java_resource_at (cread n) c (here p table) ≡ Refused k
-unfolding java_resource_at
-no_mark n c p first second k h e table = let w = rw h.first_is at e in
-    rw (h.number, h.some, h.enough, w) refl
+not_none : (n : ℕ) → 0 < n → nat_eq n 0 ≡ false
+not_none n h = grind (arith, nat_tests)
 
-pub no_names : (n : ℕ) (c : Bool) (p first second m : Spot) (z : Bool) (k : Kind) (table : Table)
-    → IsCut p first second → word_at (codes "_") first ≡ Ok m
-    → all_at (cread n) c Row.resource_name (here m table) ≡ No z k
-    → java_resource_at (cread n) c (here p table) ≡ Refused k
-unfolding java_resource_at
-no_names n c p first second m z k table h e names = let w = rw h.first_is at e in
-    rw (h.number, h.some, h.enough, w, names) refl
+not_short : (m n : ℕ) → n ≤ m → nat_lt m n ≡ false
+not_short m n h = grind (arith, nat_tests)
 
-pub bytes_left : (n : ℕ) (c : Bool) (p first second m r : Spot) (b : List Core) (table : Table)
-    → IsCut p first second → word_at (codes "_") first ≡ Ok m
-    → all_at (cread n) c Row.resource_name (here m table) ≡ Yes (here r table) b → is_empty r.left ≡ false
-    → java_resource_at (cread n) c (here p table) ≡ Refused (Unread Text)
-unfolding java_resource_at
-bytes_left n c p first second m r b table h e names l = let w = rw h.first_is at e in
-    rw (h.number, h.some, h.enough, w, names, l) refl
+same_place : (i j : ℕ) (a b : List ℕ) → i ≡ j → a ≡ b
+    → ◌≡◌ {A = Spot} (record { index = i; left = a }) (record { index = j; left = b })
+same_place i j a b h k = cc
 
 pub resource_found : (n : ℕ) (c : Bool) (p first second m r : Spot) (t : Core) (table : Table)
     → IsCut p first second → word_at (codes "_") first ≡ Ok m
@@ -113,9 +98,12 @@ pub resource_found : (n : ℕ) (c : Bool) (p first second m r : Spot) (t : Core)
     → java_resource_at (cread n) c (here p table) ≡ Found (node Tag.SpecialNameJavaResource t end) (here second table)
 unfolding java_resource_at
 resource_found n c p first second m r t table h e names l =
-    let w = rw h.first_is at e in
-    let a : m.index + length m.left ≡ r.index + length r.left = names_keep n c m r table (t ∷ []) names in
-    let b : first.index + length first.left ≡ m.index + length m.left = mark_keeps first m e in
+    let a : first.index + length first.left ≡ m.index + length m.left = mark_keeps first m e in
+    let b : m.index + length m.left ≡ r.index + length r.left = names_keep n c m r table (t ∷ []) names in
     let d : length r.left ≡ 0 = ap length l in
+    let f : first ≡ front h.size h.behind = same_place _ _ _ _ h.split.front_index h.split.front in
+    let w : word_at (codes "_") (front h.size h.behind) ≡ Ok m = subst (λ s. word_at (codes "_") s ≡ Ok m) f e in
     let i : r.index ≡ second.index = omega (arith, h.joins) in
-    rw (h.number, h.some, h.enough, w, names, l, i, ← h.second_is) refl
+    let z : nat_eq h.size 0 ≡ false = not_none h.size h.some in
+    let y : nat_lt (length h.behind.left) h.size ≡ false = not_short (length h.behind.left) h.size h.enough in
+    rw (h.number, z, y, w, names, l, i, ← h.split.back) refl
