@@ -1,6 +1,6 @@
 -- Lists of leaf rows: what is read of one is the same whatever the table is.
 use Rattle.std.specs.Prelude.{◌⊎◌}
-use Rattle.std.proofs.Common.{◌≡◌, ℕ, ◌<◌, Bool, true, false, List, [], ◌∷◌, ◌++◌, length, refl, ap, sym}
+use Rattle.std.proofs.Common.{◌≡◌, ℕ, ◌<◌, Bool, true, false, List, [], ◌∷◌, ◌++◌, length, ap, sym}
 use Rattle.std.proofs.Common.{◌∙◌, subst, inl, inr, ⊎_elim, Result, Ok, Err}
 use Rattle.demangle_core.specs.Core.{Core, Tag, node, end, trees}
 use Rattle.demangle_core.specs.Table.{Table}

@@ -12,8 +12,8 @@ use demangle_leaf_rows::{Depth, clone_suffix, hidden};
 use demangle_text::{IndexStr, Result};
 use std::alloc::Global;
 
-/// The suffixes of clones behind an encoding, as compilers append them, of which there may be none. A suffix that can't
-/// be read ends the list.
+/// The suffixes of clones behind an encoding, as compilers append them, of which there may be none. What can't be read
+/// as a suffix ends the list.
 #[tactic(auto, using(crate::proofs::LeafLists::suffixes))]
 pub fn clone_suffixes<'b>(
     alloc: Global,
