@@ -1,0 +1,3 @@
+pub mod JavaResources
+pub mod LeafLists
+pub mod WordParts
