@@ -1,0 +1,272 @@
+//! What compilers make beside functions and variables, ABI section 5.1.4.
+
+ghost use Rattle.std.specs.Prelude.{◌≡◌, ◌≤◌, ◌<◌, ◌^◌, IfOk, [], ◌∷◌};
+ghost use Rattle.demangle_text.specs.Spot.{spot};
+ghost use Rattle.demangle_table.specs.TableOf.{table_of};
+ghost use Rattle.demangle_leaf_nodes.specs.TreeLeaves.{tree_of_seq_id};
+ghost use Rattle.demangle_nodes.specs.TreeNodes.{tree_of_special_name};
+ghost use Rattle.demangle_grammar.specs.Rule.{Row};
+ghost use Rattle.demangle_grammar.specs.Code.{cread, here};
+ghost use Rattle.demangle_forms.specs.SpecialForms.{thunks_at, covariant_thunk_at, thunk_at, construction_vtable_at};
+ghost use Rattle.demangle_forms.specs.SpecialForms.{of_names_at, compiler_additions_at, guard_temporary_at};
+ghost use Rattle.demangle_forms.specs.SpecialForms.{transaction_clone_at};
+ghost use Rattle.demangle_leaf_rows.specs.Answers.{AnswersLeaf};
+ghost use Rattle.demangle_answers.specs.Reads.{Reads, ReadsRow};
+
+use crate::special_words::{any_byte, name_word, table_word};
+use demangle_answers::{begins_thunk, has_more, kept, restored};
+use demangle_below::Below;
+use demangle_entries::SpecialName;
+use demangle_leaf_nodes::{CallOffset, SeqId};
+use demangle_leaf_rows::{Depth, ReadLeaf};
+use demangle_parse_types::boxed_encoding;
+use demangle_row_parts::java_resource;
+use demangle_table::SubstitutionTable;
+use demangle_text::{Error, IndexStr, Result, consume, parse_unsigned};
+use std::alloc::Global;
+
+/// What the compiler makes beside functions and variables. ABI section 5.1.4; Java's resources and functions for type
+/// information, of old compilers, are additions of compilers.
+///
+/// ```text
+/// <special-name> ::= TV <type> | TT <type> | TI <type> | TS <type> | TF <type>
+///                ::= T <call-offset> <base encoding> | Tc <call-offset> <call-offset> <base encoding>
+///                ::= TC <derived type> <offset number> _ <base type>
+///                ::= TH <name> | TW <name> | GV <object name>
+///                ::= GR <object name> _ | GR <object name> <seq-id> _
+///                ::= Gr <length number> _ <resource-name>*
+///                ::= GTt <encoding> | GTn <encoding>
+/// ```
+#[tactic(auto, using(demangle_forms::proofs::SpecialLaws::special_name_row_is, demangle_nodes::proofs::Parts::parts_special_name, demangle_forms::proofs::Lasting::lasting), unfolding(demangle_forms::specs::SpecialForms::special_name_row))]
+pub fn special_name<'b, B: Below>(
+    below: B,
+    alloc: Global,
+    depth: Depth,
+    subs: &mut SubstitutionTable,
+    input: IndexStr<'b>,
+) -> Result<(SpecialName, IndexStr<'b>)>
+    requires can { B.can below }
+    requires room { depth.levels ≤ B.most below }
+    ensures { ReadsRow tree_of_special_name Row.special_name depth.levels depth.conversion input.entry result
+        (table_of subs.old) (table_of subs.new) }
+{
+    let depth = depth.enter()?;
+    if !has_more(2, input) {
+        return Err(Error::UnexpectedEnd);
+    }
+    if let Ok((table, rest)) = table_word(input) {
+        let (ty, rest) = below.type_handle(alloc, depth, subs, rest)?;
+        return Ok((table.of(ty), rest));
+    }
+    let (name, rest) = thunk_or_other(below, alloc, depth, subs, input)?;
+    Ok((name, rest))
+}
+
+/// Thunks, construction tables, and the alternatives behind them.
+#[tactic(auto, using(demangle_forms::proofs::Lasting::lasting), unfolding(demangle_forms::specs::SpecialForms::thunks_at))]
+fn thunk_or_other<'b, B: Below>(
+    below: B,
+    alloc: Global,
+    depth: Depth,
+    subs: &mut SubstitutionTable,
+    input: IndexStr<'b>,
+) -> Result<(SpecialName, IndexStr<'b>)>
+    requires can { B.can below }
+    requires room { depth.levels < B.most below }
+    ensures { Reads tree_of_special_name result (table_of subs.old) (table_of subs.new)
+        (thunks_at (cread depth.levels) depth.conversion (here (spot input.entry) (table_of subs.old))) }
+{
+    if let Ok(rest) = consume(b"Tc", input) {
+        let (name, rest) = covariant_thunk(below, alloc, depth, subs, rest)?;
+        return Ok((name, rest));
+    }
+    if begins_thunk(input) {
+        let (name, rest) = thunk(below, alloc, depth, subs, input)?;
+        return Ok((name, rest));
+    }
+    if let Ok(rest) = consume(b"TC", input) {
+        let (name, rest) = construction_vtable(below, alloc, depth, subs, rest)?;
+        return Ok((name, rest));
+    }
+    let (name, rest) = of_name_or_other(below, alloc, depth, subs, input)?;
+    Ok((name, rest))
+}
+
+/// What is made for a name, and the alternatives behind it.
+#[tactic(auto, using(demangle_nodes::proofs::Parts::parts_special_name, demangle_forms::proofs::Lasting::lasting), unfolding(demangle_forms::specs::SpecialForms::of_names_at))]
+fn of_name_or_other<'b, B: Below>(
+    below: B,
+    alloc: Global,
+    depth: Depth,
+    subs: &mut SubstitutionTable,
+    input: IndexStr<'b>,
+) -> Result<(SpecialName, IndexStr<'b>)>
+    requires can { B.can below }
+    requires room { depth.levels < B.most below }
+    ensures { Reads tree_of_special_name result (table_of subs.old) (table_of subs.new)
+        (of_names_at (cread depth.levels) depth.conversion (here (spot input.entry) (table_of subs.old))) }
+{
+    if let Ok((word, rest)) = name_word(input) {
+        let (name, rest) = below.name(alloc, depth, subs, rest)?;
+        return Ok((word.of(name), rest));
+    }
+    let (name, rest) = compiler_addition(below, alloc, depth, subs, input)?;
+    Ok((name, rest))
+}
+
+/// Temporaries, resources and clones, the last alternatives.
+#[tactic(auto, using(demangle_forms::proofs::Lasting::lasting), unfolding(demangle_forms::specs::SpecialForms::compiler_additions_at))]
+fn compiler_addition<'b, B: Below>(
+    below: B,
+    alloc: Global,
+    depth: Depth,
+    subs: &mut SubstitutionTable,
+    input: IndexStr<'b>,
+) -> Result<(SpecialName, IndexStr<'b>)>
+    requires can { B.can below }
+    requires room { depth.levels < B.most below }
+    ensures { Reads tree_of_special_name result (table_of subs.old) (table_of subs.new)
+        (compiler_additions_at (cread depth.levels) depth.conversion (here (spot input.entry) (table_of subs.old))) }
+{
+    if let Ok(rest) = consume(b"GR", input) {
+        let (name, rest) = guard_temporary(below, alloc, depth, subs, rest)?;
+        return Ok((name, rest));
+    }
+    if let Ok(rest) = consume(b"Gr", input) {
+        let (resource, rest) = java_resource(alloc, depth, rest)?;
+        return Ok((resource, rest));
+    }
+    if let Ok(rest) = consume(b"GT", input) {
+        let (name, rest) = transaction_clone(below, alloc, depth, subs, rest)?;
+        return Ok((name, rest));
+    }
+    Err(Error::UnexpectedText)
+}
+
+/// A thunk that also changes what the function returns, behind `Tc`: `<call-offset> <call-offset> <base encoding>`.
+#[tactic(auto, using(demangle_nodes::proofs::Parts::parts_special_name, demangle_forms::proofs::Lasting::lasting), unfolding(demangle_forms::specs::SpecialForms::covariant_thunk_at))]
+fn covariant_thunk<'b, B: Below>(
+    below: B,
+    alloc: Global,
+    depth: Depth,
+    subs: &mut SubstitutionTable,
+    input: IndexStr<'b>,
+) -> Result<(SpecialName, IndexStr<'b>)>
+    requires can { B.can below }
+    requires room { depth.levels < B.most below }
+    ensures { Reads tree_of_special_name result (table_of subs.old) (table_of subs.new)
+        (covariant_thunk_at (cread depth.levels) depth.conversion (here (spot input.entry) (table_of subs.old))) }
+{
+    let (this, rest) = CallOffset::read_leaf(depth, input)?;
+    let (returned, rest) = CallOffset::read_leaf(depth, rest)?;
+    let (encoding, rest) = boxed_encoding(below, alloc, depth, subs, rest)?;
+    Ok((
+        SpecialName::VirtualOverrideThunkCovariant(this, returned, encoding),
+        rest,
+    ))
+}
+
+/// A thunk that changes `this`: `T <call-offset> <base encoding>`.
+#[tactic(auto, using(demangle_nodes::proofs::Parts::parts_special_name, demangle_forms::proofs::Lasting::lasting), unfolding(demangle_forms::specs::SpecialForms::thunk_at))]
+fn thunk<'b, B: Below>(
+    below: B,
+    alloc: Global,
+    depth: Depth,
+    subs: &mut SubstitutionTable,
+    input: IndexStr<'b>,
+) -> Result<(SpecialName, IndexStr<'b>)>
+    requires can { B.can below }
+    requires room { depth.levels < B.most below }
+    ensures { Reads tree_of_special_name result (table_of subs.old) (table_of subs.new)
+        (thunk_at (cread depth.levels) depth.conversion (here (spot input.entry) (table_of subs.old))) }
+{
+    let rest = consume(b"T", input)?;
+    let (offset, rest) = CallOffset::read_leaf(depth, rest)?;
+    let (encoding, rest) = boxed_encoding(below, alloc, depth, subs, rest)?;
+    Ok((SpecialName::VirtualOverrideThunk(offset, encoding), rest))
+}
+
+/// The virtual table of a base while it is constructed, behind `TC`: `<derived type> <offset number> _ <base type>`.
+#[tactic(auto, using(demangle_nodes::proofs::Parts::parts_special_name, demangle_forms::proofs::Lasting::lasting), unfolding(demangle_forms::specs::SpecialForms::construction_vtable_at))]
+fn construction_vtable<'b, B: Below>(
+    below: B,
+    alloc: Global,
+    depth: Depth,
+    subs: &mut SubstitutionTable,
+    input: IndexStr<'b>,
+) -> Result<(SpecialName, IndexStr<'b>)>
+    requires can { B.can below }
+    requires room { depth.levels < B.most below }
+    ensures { Reads tree_of_special_name result (table_of subs.old) (table_of subs.new)
+        (construction_vtable_at (cread depth.levels) depth.conversion (here (spot input.entry) (table_of subs.old))) }
+{
+    let mark = subs.lengths();
+    let (derived, rest) = below.type_handle(alloc, depth, subs, input)?;
+    let (offset, rest) = restored(subs, mark, parse_unsigned(10, rest))?;
+    let rest = restored(subs, mark, consume(b"_", rest))?;
+    let answer = below.type_handle(alloc, depth, subs, rest);
+    let (base, rest) = restored(subs, mark, answer)?;
+    Ok((SpecialName::ConstructionVtable(derived, offset, base), rest))
+}
+
+/// A temporary that a reference is bound to, behind `GR`: `<object name> _ | <object name> <seq-id> _`.
+#[tactic(auto, using(demangle_nodes::proofs::Parts::parts_special_name, demangle_forms::proofs::Lasting::lasting), unfolding(demangle_forms::specs::SpecialForms::guard_temporary_at))]
+fn guard_temporary<'b, B: Below>(
+    below: B,
+    alloc: Global,
+    depth: Depth,
+    subs: &mut SubstitutionTable,
+    input: IndexStr<'b>,
+) -> Result<(SpecialName, IndexStr<'b>)>
+    requires can { B.can below }
+    requires room { depth.levels < B.most below }
+    ensures { Reads tree_of_special_name result (table_of subs.old) (table_of subs.new)
+        (guard_temporary_at (cread depth.levels) depth.conversion (here (spot input.entry) (table_of subs.old))) }
+{
+    let mark = subs.lengths();
+    let (name, rest) = below.name(alloc, depth, subs, input)?;
+    if let Ok(rest) = consume(b"_", rest) {
+        return Ok((SpecialName::GuardTemporary(name, 0), rest));
+    }
+    let (name, (SeqId(number), rest)) = kept(subs, mark, name, seq_id(depth, rest))?;
+    let (name, rest) = kept(subs, mark, name, consume(b"_", rest))?;
+    Ok((SpecialName::GuardTemporary(name, number + 1), rest))
+}
+
+/// The number of a temporary, of which the next is a number too. ABI section 5.1.10.
+///
+/// ```text
+/// <seq-id> ::= <0-9A-Z>+
+/// ```
+#[tactic(auto, unfolding(demangle_grammar::specs::Code::cread, demangle_grammar::specs::Rows::rule))]
+fn seq_id<'b>(depth: Depth, input: IndexStr<'b>) -> Result<(SeqId, IndexStr<'b>)>
+    ensures reads { AnswersLeaf tree_of_seq_id Row.seq_id depth.levels depth.conversion input.entry result }
+    ensures small { IfOk result (λ x. x.0.0 < 2 ^ 63) }
+{
+    let _depth = depth.enter()?;
+    let (number, rest) = parse_unsigned(36, input)?;
+    Ok((SeqId(number), rest))
+}
+
+/// A copy of a function for transactions, behind `GT`: `n <encoding>`, or another byte for `t` before the encoding.
+#[tactic(auto, using(demangle_nodes::proofs::Parts::parts_special_name, demangle_forms::proofs::Lasting::lasting), unfolding(demangle_forms::specs::SpecialForms::transaction_clone_at))]
+fn transaction_clone<'b, B: Below>(
+    below: B,
+    alloc: Global,
+    depth: Depth,
+    subs: &mut SubstitutionTable,
+    input: IndexStr<'b>,
+) -> Result<(SpecialName, IndexStr<'b>)>
+    requires can { B.can below }
+    requires room { depth.levels < B.most below }
+    ensures { Reads tree_of_special_name result (table_of subs.old) (table_of subs.new)
+        (transaction_clone_at (cread depth.levels) depth.conversion (here (spot input.entry) (table_of subs.old))) }
+{
+    if let Ok(rest) = consume(b"n", input) {
+        let (encoding, rest) = boxed_encoding(below, alloc, depth, subs, rest)?;
+        return Ok((SpecialName::NonTransactionClone(encoding), rest));
+    }
+    let rest = any_byte(input)?;
+    let (encoding, rest) = boxed_encoding(below, alloc, depth, subs, rest)?;
+    Ok((SpecialName::TransactionClone(encoding), rest))
+}
