@@ -1,0 +1,2 @@
+pub mod MissingWords
+pub mod RowsRead

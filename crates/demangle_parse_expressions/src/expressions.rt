@@ -1,0 +1,177 @@
+//! Expressions: the word at the front tells which of the alternatives stands there, or else they are tried in order.
+
+ghost use Rattle.std.specs.Prelude.{◌≡◌, ◌≤◌, ◌<◌, []};
+ghost use Rattle.demangle_text.specs.Spot.{spot};
+ghost use Rattle.demangle_table.specs.TableOf.{table_of};
+ghost use Rattle.demangle_nodes.specs.TreeNodes.{tree_of_expression};
+ghost use Rattle.demangle_grammar.specs.Rule.{Row};
+ghost use Rattle.demangle_grammar.specs.Code.{close, cread, here};
+ghost use Rattle.demangle_forms.specs.ExpressionForms.{expression_at, names_at, references_at, worded_at};
+ghost use Rattle.demangle_answers.specs.Reads.{Reads, ReadsRow};
+ghost use Rattle.demangle_row_parts.specs.ExpressionWords.{head_of_word};
+
+use crate::calls::calls;
+use crate::casts::{cast, of_expression, of_type};
+use crate::folds::fold_expr;
+use crate::members::members;
+use crate::news::{allocation, global_allocation};
+use crate::operands::operators;
+use crate::unresolved::unresolved_name;
+use demangle_answers::passed;
+use demangle_below::Below;
+use demangle_entries::{Expression, FunctionParam, TemplateParam};
+use demangle_leaf_rows::{Depth, ReadLeaf};
+use demangle_parse_types::expr_primary;
+use demangle_row_parts::{AllocationForms, ExpressionWord, expression_word, fold_begins};
+use demangle_table::SubstitutionTable;
+use demangle_text::{IndexStr, Result};
+use std::alloc::Global;
+
+/// An expression, ABI section 5.1.6.
+///
+/// ```text
+/// <expression> ::= <a word of its own> .. | <fold-expr> | [gs] nw .. | [gs] na .. | [gs] dl .. | [gs] da ..
+///              ::= <template-param> | <function-param> | <unresolved-name> | <expr-primary>
+///              ::= <operator-name> <expression> [<expression> [<expression>]]
+/// ```
+#[tactic(auto, using(demangle_forms::proofs::ExpressionLaws::expression_row_is), unfolding(demangle_forms::specs::ExpressionForms::expression_row))]
+pub fn expression_by<'b, B: Below>(
+    below: B,
+    alloc: Global,
+    depth: Depth,
+    subs: &mut SubstitutionTable,
+    input: IndexStr<'b>,
+) -> Result<(Expression, IndexStr<'b>)>
+    requires can { B.can below }
+    requires room { depth.levels ≤ B.most below }
+    ensures { ReadsRow tree_of_expression Row.expression depth.levels depth.conversion input.entry result
+        (table_of subs.old) (table_of subs.new) }
+{
+    let depth = depth.enter()?;
+    let (expression, rest) = alternatives(below, alloc, depth, subs, input)?;
+    Ok((expression, rest))
+}
+
+/// All alternatives of an expression.
+#[tactic(auto, using(demangle_nodes::proofs::Parts::expression_fold), unfolding(demangle_forms::specs::ExpressionForms::expression_at))]
+fn alternatives<'b, B: Below>(
+    below: B,
+    alloc: Global,
+    depth: Depth,
+    subs: &mut SubstitutionTable,
+    input: IndexStr<'b>,
+) -> Result<(Expression, IndexStr<'b>)>
+    requires can { B.can below }
+    requires room { depth.levels < B.most below }
+    ensures { Reads tree_of_expression result (table_of subs.old) (table_of subs.new)
+        (expression_at (cread depth.levels) depth.conversion (here (spot input.entry) (table_of subs.old))) }
+{
+    if let Ok((word, rest)) = expression_word(input) {
+        let (expression, rest) = worded(below, alloc, depth, subs, word, rest)?;
+        return Ok((expression, rest));
+    }
+    if fold_begins(input) {
+        let (fold, rest) = fold_expr(below, alloc, depth, subs, input)?;
+        return Ok((Expression::Fold(fold), rest));
+    }
+    let (expression, rest) = names(below, alloc, depth, subs, input)?;
+    Ok((expression, rest))
+}
+
+/// What stands behind a word of its own.
+fn worded<'b, B: Below>(
+    below: B,
+    alloc: Global,
+    depth: Depth,
+    subs: &mut SubstitutionTable,
+    word: ExpressionWord,
+    input: IndexStr<'b>,
+) -> Result<(Expression, IndexStr<'b>)>
+    requires can { B.can below }
+    requires room { depth.levels < B.most below }
+    ensures { Reads tree_of_expression result (table_of subs.old) (table_of subs.new)
+        (close (worded_at (head_of_word word) (cread depth.levels) depth.conversion
+        (here (spot input.entry) (table_of subs.old)))) }
+{
+    match word {
+        ExpressionWord::OfExpression(word) => {
+            let (expression, rest) = of_expression(below, alloc, depth, subs, word, input)?;
+            Ok((expression, rest))
+        }
+        ExpressionWord::OfType(word) => {
+            let (expression, rest) = of_type(below, alloc, depth, subs, word, input)?;
+            Ok((expression, rest))
+        }
+        ExpressionWord::Cast(word) => {
+            let (expression, rest) = cast(below, alloc, depth, subs, word, input)?;
+            Ok((expression, rest))
+        }
+        ExpressionWord::Call(word) => {
+            let (expression, rest) = calls(below, alloc, depth, subs, word, input)?;
+            Ok((expression, rest))
+        }
+        ExpressionWord::Member(word) => {
+            let (expression, rest) = members(below, alloc, depth, subs, word, input)?;
+            Ok((expression, rest))
+        }
+    }
+}
+
+/// New and delete, parameters, and what comes after these.
+#[tactic(auto, using(demangle_nodes::proofs::Parts::expression_template_param, demangle_nodes::proofs::Parts::expression_function_param), unfolding(demangle_forms::specs::ExpressionForms::names_at))]
+fn names<'b, B: Below>(
+    below: B,
+    alloc: Global,
+    depth: Depth,
+    subs: &mut SubstitutionTable,
+    input: IndexStr<'b>,
+) -> Result<(Expression, IndexStr<'b>)>
+    requires can { B.can below }
+    requires room { depth.levels < B.most below }
+    ensures { Reads tree_of_expression result (table_of subs.old) (table_of subs.new)
+        (names_at (cread depth.levels) depth.conversion (here (spot input.entry) (table_of subs.old))) }
+{
+    match passed(global_allocation(below, alloc, depth, subs, input))? {
+        Ok(found) => return Ok(found),
+        Err(_) => {}
+    }
+    let forms = AllocationForms::plain();
+    match passed(allocation(below, alloc, depth, subs, forms, input))? {
+        Ok(found) => return Ok(found),
+        Err(_) => {}
+    }
+    if let Ok((param, rest)) = passed(TemplateParam::read_leaf(depth, input))? {
+        return Ok((Expression::TemplateParam(param), rest));
+    }
+    if let Ok((param, rest)) = passed(FunctionParam::read_leaf(depth, input))? {
+        return Ok((Expression::FunctionParam(param), rest));
+    }
+    let (expression, rest) = references(below, alloc, depth, subs, input)?;
+    Ok((expression, rest))
+}
+
+/// Unresolved names, literals and entities, and operators with their operands.
+#[tactic(auto, using(demangle_nodes::proofs::Parts::expression_unresolved_name, demangle_nodes::proofs::Parts::expression_primary), unfolding(demangle_forms::specs::ExpressionForms::references_at))]
+fn references<'b, B: Below>(
+    below: B,
+    alloc: Global,
+    depth: Depth,
+    subs: &mut SubstitutionTable,
+    input: IndexStr<'b>,
+) -> Result<(Expression, IndexStr<'b>)>
+    requires can { B.can below }
+    requires room { depth.levels < B.most below }
+    ensures { Reads tree_of_expression result (table_of subs.old) (table_of subs.new)
+        (references_at (cread depth.levels) depth.conversion (here (spot input.entry) (table_of subs.old))) }
+{
+    match passed(unresolved_name(below, alloc, depth, subs, input))? {
+        Ok((name, rest)) => return Ok((Expression::UnresolvedName(name), rest)),
+        Err(_) => {}
+    }
+    match passed(expr_primary(below, alloc, depth, subs, input))? {
+        Ok((primary, rest)) => return Ok((Expression::Primary(primary), rest)),
+        Err(_) => {}
+    }
+    let (expression, rest) = operators(below, alloc, depth, subs, input)?;
+    Ok((expression, rest))
+}

@@ -1,0 +1,24 @@
+//! The rows of expressions, ABI section 5.1.6, over what lies below them: expressions, unresolved names, and what both
+//! are made of.
+#![tactic(auto)]
+
+mod calls;
+mod casts;
+mod expressions;
+mod folds;
+mod lists;
+mod members;
+mod news;
+mod operands;
+mod unresolved;
+mod unresolved_parts;
+
+pub use calls::initializer;
+pub use expressions::expression_by;
+pub use folds::fold_expr;
+pub use members::{member_name, subobject_expr};
+pub use unresolved::unresolved_name;
+pub use unresolved_parts::{
+    base_unresolved_name, destructor_name, simple_id, unresolved_qualifier_level,
+    unresolved_type_handle,
+};
