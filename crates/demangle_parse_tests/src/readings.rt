@@ -1,0 +1,92 @@
+//! The tests: tables of readings, and readings from one table.
+
+use crate::answers::{Reading, first_wrong, first_wrong_in_turn, first_wrong_under};
+use crate::expressions::EXPRESSIONS;
+use crate::leaves::LEAVES;
+use crate::limits::LIMITS;
+use crate::names::NAMES;
+use crate::types::TYPES;
+use crate::whole_names::WHOLE_NAMES;
+use demangle_leaf_rows::ParseContext;
+use demangle_text::ParseOptions;
+
+/// Entries are added behind those that were there, and a refusal leaves them.
+const ONE_TABLE: [Reading; 9] = [
+    ("TypeHandle", b"1a", "BackReference(0), left 0, entries 1 0"),
+    (
+        "TypeHandle",
+        b"PS_",
+        "BackReference(1), left 0, entries 2 0",
+    ),
+    (
+        "Substitution",
+        b"S0_E",
+        "BackReference(1), left 1, entries 2 0",
+    ),
+    ("TypeHandle", b"FPS_", "UnexpectedText, entries 2 0"),
+    ("TypeHandle", b"S1_", "UnexpectedText, entries 2 0"),
+    ("Substitution", b"S1_", "BadBackReference, entries 2 0"),
+    (
+        "TypeHandle",
+        b"FS_S0_E",
+        "BackReference(2), left 0, entries 3 0",
+    ),
+    (
+        "TemplateArg",
+        b"S1_",
+        "TypeArg(BackReference(2)), left 0, entries 3 0",
+    ),
+    (
+        "PrefixHandle",
+        b"S_1bE",
+        "NonSubstitution(NonSubstitution(0)), left 1, entries 3 1",
+    ),
+];
+
+/// What is read ahead behind the type of a conversion is given back, and only then may be the operator's.
+const CONVERSIONS: [Reading; 2] = [
+    (
+        "TypeHandle",
+        b"T_I1aE",
+        "BackReference(0), left 4, entries 1 0",
+    ),
+    (
+        "TypeHandle",
+        b"T_I1aEIcE",
+        "BackReference(3), left 3, entries 4 0",
+    ),
+];
+
+/// A level that was entered counts.
+const ONE_LEVEL: [Reading; 2] = [
+    ("TypeHandle", b"i", "TooMuchRecursion, entries 0 0"),
+    ("BuiltinType", b"i", "Standard(Int), left 0, entries 0 0"),
+];
+
+#[test]
+fn each_row_is_read(rt: HostRuntime) {
+    let alloc = rt.alloc();
+    assert_eq!(rt; first_wrong(alloc, &LEAVES), None);
+    assert_eq!(rt; first_wrong(alloc, &NAMES), None);
+    assert_eq!(rt; first_wrong(alloc, &TYPES), None);
+    assert_eq!(rt; first_wrong(alloc, &EXPRESSIONS), None);
+    assert_eq!(rt; first_wrong(alloc, &WHOLE_NAMES), None);
+}
+
+#[test]
+fn levels_are_counted_in_what_is_tried(rt: HostRuntime) {
+    assert_eq!(rt; first_wrong_under(rt.alloc(), &LIMITS), None);
+}
+
+#[test]
+fn tables_and_contexts_are_shared(rt: HostRuntime) {
+    let alloc = rt.alloc();
+    let mut ctx = ParseContext::new(ParseOptions::default());
+    assert_eq!(rt; first_wrong_in_turn(alloc, &mut ctx, &ONE_TABLE), None);
+    let was_on = ctx.set_in_conversion(true);
+    assert!(rt; !was_on);
+    assert_eq!(rt; first_wrong_in_turn(alloc, &mut ctx, &CONVERSIONS), None);
+    let mut ctx = ParseContext::new(ParseOptions::default().recursion_limit(4));
+    assert_eq!(rt; ctx.enter(), Ok(()));
+    assert_eq!(rt; first_wrong_in_turn(alloc, &mut ctx, &ONE_LEVEL), None);
+}
