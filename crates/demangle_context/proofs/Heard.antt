@@ -1,7 +1,7 @@
 -- What a listener was told by one call.
 use Rattle.std.proofs.Common.{ℕ, ◌<◌, List, [], ◌∷◌, map, length, Option, Some, None, refl, sym, ◌∙◌}
 use Rattle.std.proofs.Common.{subst, append-nil, arith}
-use Rattle.demangle_printing.specs.State.{Kind, Event, byte, opened, closed}
+use Rattle.demangle_printing.specs.State.{Kind, byte, opened, closed}
 use Rattle.demangle_meets.specs.Seen.{piece, begins, ends, Seen, Grows, Told}
 use Rattle.demangle_meets.proofs.Heard.{text_bytes, told_nothing}
 use Rattle.demangle_context.specs.Hears.{Stays, Hears, HearsText, Fails, LacksMemory}

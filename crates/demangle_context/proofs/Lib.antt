@@ -4,3 +4,6 @@ pub mod Hold
 pub mod Characters
 pub mod Heard
 pub mod Texts
+pub mod TextSteps
+pub mod ItemSteps
+pub mod NodeSteps

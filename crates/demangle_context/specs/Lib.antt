@@ -2,8 +2,11 @@ pub mod Options
 pub mod Errors
 pub mod Kinds
 pub mod Hears
+pub mod TroubleOf
+pub mod FlagOf
 pub mod Room
 pub mod Items
 pub mod ItemsOf
 pub mod View
 pub mod Calls
+pub mod PageOf

@@ -5,12 +5,15 @@ use Rattle.demangle_core.specs.Core.{Core}
 use Rattle.demangle_printing.specs.State.{Flags, State, last_of}
 use Rattle.demangle_printing.specs.Outcome.{Options, first_state}
 use Rattle.demangle_meets.specs.Seen.{Seen}
+use Rattle.demangle_meets.specs.Page.{Trouble}
 use Rattle.demangle_context.specs.Items.{Items, no_items}
 use Rattle.demangle_context.specs.ItemsOf.{items_of}
+use Rattle.demangle_context.specs.TroubleOf.{trouble_of}
 use Rattle.demangle_context.specs.declared.context.DemangleFlags.{DemangleFlags}
 use Rattle.demangle_context.specs.declared.context.Context.{Context}
 
--- `subs` is the table, of whatever type; `name` is that of the reference to the listener, which stays the same one.
+-- `subs` is the table, of whatever type; `name` is that of the reference to the listener, which stays the same one;
+-- `trouble` is the first one that a step of a line met.
 pub record View (S : Type 0) : Type 0 where
   pub items : Items
   pub last_char : Option ℕ
@@ -21,6 +24,7 @@ pub record View (S : Type 0) : Type 0 where
   pub subs : S
   pub input : List ℕ
   pub name : ℕ
+  pub trouble : Option Trouble
 
 -- ---- the state of the printing
 abbrev pub last_byte : Option ℕ → Option ℕ
@@ -56,6 +60,7 @@ first_view o subs input seen name =
       subs = subs;
       input = input;
       name = name;
+      trouble = None;
     }
 
 -- the same, but for the items and the level
@@ -88,4 +93,5 @@ view tree seen c =
       subs = c.subs.now;
       input = c.input.now;
       name = c.out.ghost_name;
+      trouble = option_map trouble_of c.trouble;
     }

@@ -1,6 +1,6 @@
 //! The context of a printing: what is printed, to whom, and how far it has come.
 
-ghost use Rattle.std.specs.Prelude.{◌≡◌, ◌+◌, ◌<◌, ◌↔◌, true, false, not, Some, Ok, IsOk, IsErr, IfOk, IfErr, OnOk};
+ghost use Rattle.std.specs.Prelude.{◌≡◌, ◌+◌, ◌<◌, ◌↔◌, true, false, Some, Ok, IsOk, IsErr, IfOk, IfErr, OnOk};
 ghost use Rattle.std.specs.Prelude.{OnErr, IsSomeAnd, length, option_map};
 ghost use Rattle.demangle_printing.specs.State.{has_room, less_room, is_own_item, is_byte};
 ghost use Rattle.demangle_context.specs.Kinds.{kind_of};
@@ -9,13 +9,14 @@ ghost use Rattle.demangle_context.specs.Items.{HasRoom, one_deeper, one_less_dee
 ghost use Rattle.demangle_context.specs.Items.{with_pushed_at, without_top, without_top_if, with_top_kept};
 ghost use Rattle.demangle_context.specs.Items.{with_returned, set_aside, no_items, brought_back};
 ghost use Rattle.demangle_context.specs.ItemsOf.{items_of};
-ghost use Rattle.demangle_context.specs.View.{view, first_view, with_items, state_of, flags_of};
+ghost use Rattle.demangle_context.specs.View.{view, first_view, with_items, state_of};
 ghost use Rattle.demangle_context.specs.Calls.{EndsIn, Writing, Spacing, Announces, IsReadyToHold};
 
 use crate::error::DemangleError;
 use crate::inner_items::{InnerBarrier, InnerItems, InnerNode};
 use crate::listener::{DemangleNodeType, DemangleWrite};
 use crate::options::DemangleOptions;
+use crate::trouble::Trouble;
 use std::alloc::Global;
 
 /// What lines of printing tell each other.
@@ -51,6 +52,8 @@ pub struct Context<'a, 'w, T: Copy, S: 'a, W: 'w> {
     /// What lines of printing tell each other.
     pub flags: DemangleFlags,
     room: Option<usize>,
+    /// The first trouble that a step of a line met.
+    pub(crate) trouble: Option<Trouble>,
 }
 
 /// The last character of a text, `None` where it is empty.
@@ -130,6 +133,7 @@ impl<'a, 'w, T: InnerNode, S: 'a, W: 'w + DemangleWrite> Context<'a, 'w, T, S, W
                 littypes,
             },
             room: options.output_bytes(),
+            trouble: None,
         }
     }
 
@@ -147,6 +151,7 @@ impl<'a, 'w, T: InnerNode, S: 'a, W: 'w + DemangleWrite> Context<'a, 'w, T, S, W
             source: _source,
             flags: _flags,
             room: _room,
+            trouble: _trouble,
         } = self;
         drop(items);
         out
@@ -408,6 +413,7 @@ impl<'a, 'w, T: Copy, S: 'a, W: 'w> Drop for Context<'a, 'w, T, S, W> {
             source: _source,
             flags: _flags,
             room: _room,
+            trouble: _trouble,
         } = self;
     }
 }

@@ -4,16 +4,22 @@
 
 mod context;
 mod error;
+mod flag;
 mod inner_items;
 mod listener;
 mod options;
+mod steps;
 #[cfg(test)]
 mod tests;
 mod text_sink;
+mod trouble;
 
 pub use context::{Context, DemangleFlags};
 pub use error::{DemangleError, SinkFault};
+pub use flag::PrintFlag;
 pub use inner_items::{InnerBarrier, InnerItems, InnerNode};
 pub use listener::{DemangleNodeType, DemangleWrite};
 pub use options::DemangleOptions;
+pub use steps::RefersTo;
 pub use text_sink::TextSink;
+pub use trouble::PrintFault;

@@ -55,6 +55,14 @@ pub meets_done : {p : Place} {a : Page} → Meets p a a done
 unfolding act
 meets_done = record { goes = goes_nowhere; same = record { is = λ n z. refl } }
 
+-- behind a step that tells nothing and changes nothing
+pub meets_silent : {p : Place} {a m b : Page} {k : Act Core} → Steps a m (λ s. yes [] s) → Meets p m b k → Meets p a b k
+meets_silent {p} d q =
+    record {
+      goes = quiet_then {to = λ s. s} (d.at_place p) d.same q (λ v. tt) (λ v. v);
+      same = keeps_then d.same q.goes q.same;
+    }
+
 pub meets_text : {p : Place} {a m b : Page} {bs : List ℕ} {k : Act Core} → Steps a m (written bs) → Meets p m b k →
     Meets p a b (text bs k)
 unfolding act Does
@@ -188,3 +196,10 @@ meets_named {p} d q =
       goes = quiet_then (d.at_place p) d.same q (λ v. tt) (λ v. v);
       same = keeps_then d.same q.goes q.same;
     }
+
+-- A name, and behind it a fault.
+pub meets_named_fails : {p : Place} {a b : Page} {bs : List ℕ} {f : Fault} {k : Act Core} → Steps a b (λ s. no [] f) →
+    Meets p a b (named bs (block (fail f) k))
+unfolding act Does
+meets_named_fails {p} d =
+    record { goes = goes_as (λ _. refl) (λ _ v. tt) (d.at_place p); same = d.same }

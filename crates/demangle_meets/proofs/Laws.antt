@@ -14,7 +14,8 @@ use Rattle.demangle_meets.specs.Page.{Page, Trouble, fault, lost, Loss, failed, 
 use Rattle.demangle_meets.specs.Goes.{Whole, Stopped, Goes}
 use Rattle.demangle_meets.specs.Place.{Place, world_of}
 use Rattle.demangle_meets.specs.Meets.{deeper, fitting, Meets}
-use Rattle.demangle_meets.specs.Laws.{LosesByListener, LeavesFitting, CountsStay, LeavesSome, StaysFixed, fault_in, StopsExactly}
+use Rattle.demangle_meets.specs.Laws.{LosesByListener, LeavesFitting, CountsStay, LeavesSome, StaysFixed, fault_in}
+use Rattle.demangle_meets.specs.Laws.{StopsExactly}
 use Rattle.demangle_meets.specs.Laws.{WasTold, WasStopped, TellsInOrder}
 use Rattle.demangle_meets.proofs.Goes.{goes_after}
 use Rattle.demangle_meets.proofs.Acts.{job_meets}

@@ -16,11 +16,11 @@ use Rattle.demangle_printing.specs.Parameters.{Wanted, wanted, parameters_in, pa
 use Rattle.std.specs.Str.{is_utf8}
 use Rattle.demangle_meets.specs.Page.{Page, at}
 use Rattle.demangle_meets.specs.Place.{Place, world_of}
-use Rattle.demangle_meets.specs.Calls.{Steps}
+use Rattle.demangle_meets.specs.Calls.{Steps, TakesTop, TakesNone}
 use Rattle.demangle_meets.specs.Meets.{Meets, Prints, Inner, Remains, ListRemains, MembersRemain}
 use Rattle.demangle_meets.specs.Meets.{TurnsRemain, RvaluesRemain, ArraysRemain}
-use Rattle.demangle_meets.proofs.Acts.{meets_done, meets_text, meets_fail, meets_space, meets_block, meets_call}
-use Rattle.demangle_meets.proofs.Acts.{meets_ask, meets_pop}
+use Rattle.demangle_meets.proofs.Acts.{meets_done, meets_silent, meets_text, meets_fail, meets_space, meets_block}
+use Rattle.demangle_meets.proofs.Acts.{meets_call, meets_ask, meets_pop}
 
 -- ---- texts
 -- a word, a number, or characters, apart from what comes behind it
@@ -110,6 +110,16 @@ pub meets_take_none : {p : Place} {a b : Page} {k : Act Core} (sc : Scope Core) 
 meets_take_none {p} sc none q =
     meets_ask (λ z. ap (λ y. turn_from (world_of p.refers) y sc done) (none z)) meets_done q
 
+-- the same of the call that pops it
+pub meets_taken : {p : Place} {sc : Scope Core} {a m n b : Page} {x : Core} {k : Act Core} → TakesTop a m x →
+    Inner p m n x sc → Meets p n b k → Meets p a b (ask (λ s. turn_from (world_of p.refers) s.inner sc done) k)
+meets_taken {p} {sc} {a} {m} {n} d i q =
+    meets_take d.top d.step (subst (λ z. Inner p m n z sc) (sym d.is) i) q
+
+pub meets_taken_none : {p : Place} {a m b : Page} {k : Act Core} (sc : Scope Core) → TakesNone a m → Meets p m b k →
+    Meets p a b (ask (λ s. turn_from (world_of p.refers) s.inner sc done) k)
+meets_taken_none sc d q = meets_take_none sc d.none (meets_silent d.step q)
+
 -- each item, from the top, until none is left
 pub turns_all : {p : Place} {a : Page} {sc : Scope Core} (n : ℕ) →
     TurnsRemain p a a (turns (world_of p.refers) n sc) n sc
@@ -140,6 +150,24 @@ then_turn {p} {sc} {n = n} w top s i =
             (meets_pop s (meets_call i.meets q)) meets_done);
       };
     }
+
+-- the same of the call that pops it
+pub turn_taken : {p : Place} {sc : Scope Core} {a c d e : Page} {n : ℕ} {x : Core} {f : Act Core} →
+    TurnsRemain p a c f (suc n) sc → TakesTop c d x → Inner p d e x sc → TurnsRemain p a e f n sc
+turn_taken {p} {sc} {d = d} {e = e} w t i =
+    then_turn w t.top t.step (subst (λ z. Inner p d e z sc) (sym t.is) i)
+
+pub turns_taken : {p : Place} {a c d : Page} {n : ℕ} {sc : Scope Core} {f : Act Core} → TurnsRemain p a c f n sc →
+    TakesNone c d → Meets p a d f
+turns_taken {p} {n = n} {sc = sc} w t =
+    meets_rest w.remains (meets_turns_none p sc n t)
+  where
+    meets_turns_none : (p : Place) (sc : Scope Core) (n : ℕ) {a b : Page} → TakesNone a b →
+        Meets p a b (turns (world_of p.refers) n sc)
+    meets_turns_none p sc zero t = meets_silent t.step meets_done
+    meets_turns_none p sc (suc n) t =
+        meets_ask (λ z. ap (λ y. turn_from (world_of p.refers) y sc (turns (world_of p.refers) n sc)) (t.none z))
+        (meets_silent t.step meets_done) meets_done
 
 -- ---- references that are joined
 -- what is done for the top item, of which it is known whether it is a right reference

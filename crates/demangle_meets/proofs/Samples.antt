@@ -1,9 +1,9 @@
 -- Some lines as terms of their calls, as answers of printing functions have them.
-use Rattle.std.proofs.Common.{◌≡◌, ℕ, zero, Bool, true, false, List, [], ◌∷◌, codes, length, ◌||◌, Option, Some, None}
+use Rattle.std.proofs.Common.{◌≡◌, ℕ, Bool, true, false, List, [], ◌∷◌, codes, length, ◌||◌, Option, Some, None}
 use Rattle.std.proofs.Common.{refl, sym, ap}
 use Rattle.demangle_core.specs.Core.{Core, Tag, node, end}
 use Rattle.demangle_printing.specs.World.{World}
-use Rattle.demangle_printing.specs.State.{tprefix, nprefix, TooMuchRecursion, yes, no, written, spaced, flagged}
+use Rattle.demangle_printing.specs.State.{tprefix, nprefix, yes, written, spaced, flagged}
 use Rattle.demangle_printing.specs.State.{Held, popped, is_on, is_byte}
 use Rattle.demangle_printing.specs.State as kind
 use Rattle.demangle_printing.specs.Scope.{Scope, with_leaf}
@@ -20,8 +20,9 @@ use Rattle.demangle_printing.specs.Print.{body}
 use Rattle.demangle_printing.specs.Lines.{line_steps}
 use Rattle.demangle_printing.specs.Lines.Functions.{in_leaf_scope}
 use Rattle.demangle_meets.specs.Page.{Page}
-use Rattle.demangle_meets.specs.Place.{Place, IsDeeper, world_of}
-use Rattle.demangle_meets.specs.Calls.{Steps, Pushes, PopsOwn, KeepsTop, Returns, SetsAside, BringsBack, Begins}
+use Rattle.demangle_meets.specs.Place.{Place, world_of}
+use Rattle.demangle_meets.specs.Calls.{Steps, Enters, Stops, Pushes, PopsOwn, KeepsTop, Returns, SetsAside}
+use Rattle.demangle_meets.specs.Calls.{BringsBack, Begins}
 use Rattle.demangle_meets.specs.Calls.{Ends}
 use Rattle.demangle_meets.specs.Meets.{Meets, Prints, Inner, Closes, Sifts}
 use Rattle.demangle_meets.proofs.Acts.{meets_done, meets_text, meets_space, meets_set, meets_choose_on}
@@ -36,19 +37,19 @@ use Rattle.demangle_meets.proofs.Lines.{arrays_end, meets_parameters}
 use Rattle.demangle_meets.proofs.Sifted.{sifts_kept, sifts_done, sifts_none, meets_sift}
 
 module _ (p q : Place) (sc : Scope Core) (t u : Tag) (c d : Core) where
-  -- `match below.enter() { None => ctx.fail(Fault::TooMuchRecursion), Some(deeper) => .. }`
-  deep : {a b : Page} → p.left ≡ zero → Steps a b (λ s. no [] TooMuchRecursion) →
-      Prints p a b (node Tag.TypeNodeComplex (node t c end) end) sc
-  deep e f = prints_deep refl e f
+  -- `let Some(below) = below.enter(ctx) else { return };`
+  deep : {a b : Page} → Stops p a b → Prints p a b (node Tag.TypeNodeComplex (node t c end) end) sc
+  deep f = prints_deep refl f
 
   -- a part, and a text
-  complex : {a m b : Page} → IsDeeper p q → Prints q a m (node t c end) sc → Steps m b (written (codes " complex")) →
+  complex : {a o m b : Page} → Enters p q a o → Prints q o m (node t c end) sc →
+      Steps m b (written (codes " complex")) →
       Prints p a b (node Tag.TypeNodeComplex (node t c end) end) sc
   unfolding body line_steps
   complex e part write = prints_node refl e (meets_part part (meets_text write meets_done))
 
   -- a part in the midst: push, the part, close
-  pointer : {a m n b : Page} → IsDeeper p q → Pushes q.level a m (node Tag.TypeNodePointerTo (node t c end) end) →
+  pointer : {a o m n b : Page} → Enters p q a o → Pushes q.level o m (node Tag.TypeNodePointerTo (node t c end) end) →
       Prints q m n (node t c end) sc →
       Closes q n b (inner_of (world_of q.refers) (node Tag.TypeNodePointerTo (node t c end) end) sc done) →
       Prints p a b (node Tag.TypeNodePointerTo (node t c end) end) sc
@@ -61,12 +62,12 @@ module _ (p q : Place) (sc : Scope Core) (t u : Tag) (c d : Core) where
   close pop inner = closes_own pop inner.meets
 
   -- flags, the events of a node, items set aside, two parts
-  prefix : {a b e f g h i j : Page} {told : Bool} {count : ℕ} → IsDeeper p q →
+  prefix : {z a b e f g h i j : Page} {told : Bool} {count : ℕ} → Enters p q z a →
       (a.trouble ≡ None → is_on tprefix a.flags ≡ false) → (a.trouble ≡ None → is_on nprefix a.flags ≡ true) →
       Steps a b (λ s. yes [] (flagged nprefix false s)) → Begins b e kind.nested_name told → SetsAside e f count →
       Prints q f g (node t c end) sc → Steps g h (written (codes "::")) → Prints q h i (node u d end) sc →
       (k : Page) → BringsBack count i k → Ends told k j →
-      Prints p a j (node Tag.PrefixNested (node t c (node u d end)) end) sc
+      Prints p z j (node Tag.PrefixNested (node t c (node u d end)) end) sc
   unfolding body line_steps
   prefix e off on set begin barrier first write second k restore ends =
       prints_node refl e
@@ -77,7 +78,7 @@ module _ (p q : Place) (sc : Scope Core) (t u : Tag) (c d : Core) where
       meets_done)) meets_done) meets_done)
 
   -- a function's encoding: its leaf name is looked up, and what stands in its scope is a function of its own
-  encoding : {a m n b : Page} {r : Option Core} {count : ℕ} → IsDeeper p q → SetsAside a m count →
+  encoding : {a o m n b : Page} {r : Option Core} {count : ℕ} → Enters p q a o → SetsAside o m count →
       r ≡ leaf_name_of (world_of q.refers) (Some (node t c end)) →
       Meets q m n (run (world_of q.refers) (Some (node Tag.EncodingFunction (node t c (node u d end)) end))
       (with_leaf r sc) in_leaf_scope) →
@@ -95,14 +96,14 @@ module _ (p q : Place) (types : List Core) (sc : Scope Core) where
   abbrev w : World Core
   w = world_of q.refers
 
-  parameters : {a b c d e f g h i j k m : Page} {count : ℕ} → IsDeeper p q →
+  parameters : {z a b c d e f g h i j k m : Page} {count : ℕ} → Enters p q z a →
       (a.trouble ≡ None → wanted w a.inner ≡ some) →
       (a.trouble ≡ None → (is_byte 40 a.last || is_byte 42 a.last) ≡ false) → Steps a b spaced →
       Steps b c (written (codes "(")) → Sifts q c d (is_kept w) (inside_of w sc) (length c.inner) →
-      Returns q.level (length c.kept) d e → Steps e f (written (codes ")")) → Steps f g (written (codes "(")) →
+      Returns (length c.kept) d e → Steps e f (written (codes ")")) → Steps f g (written (codes "(")) →
       is_void w types ≡ false → (g.trouble ≡ None → g.flags.object ≡ false) → SetsAside g h count →
       Meets q h i (lines_of w types sc) → BringsBack count i j → Steps j k (written (codes ")")) →
-      Meets q k m (turns w (length k.inner) sc) → Meets p a m (call (job.parameters types) sc done)
+      Meets q k m (turns w (length k.inner) sc) → Meets p z m (call (job.parameters types) sc done)
   unfolding body
   parameters e want byte space before sifts returns behind first void object barrier listed restore last waits =
       meets_line e
@@ -116,7 +117,7 @@ module _ (p q : Place) (types : List Core) (sc : Scope Core) where
 
   -- of the items one is kept, the next is done, and then none is left
   sifted : {a b c d : Page} {h k : Held Core} {hs ks : List (Held Core)} →
-      (a.trouble ≡ None → a.inner ≡ h ∷ hs) → is_kept w h.item ≡ true → KeepsTop q.level a b h →
+      (a.trouble ≡ None → a.inner ≡ h ∷ hs) → is_kept w h.item ≡ true → KeepsTop a b h →
       (b.trouble ≡ None → b.inner ≡ k ∷ ks) → is_kept w k.item ≡ false → Steps b c (λ s. yes [] (popped s)) →
       Inner q c d k.item sc → (d.trouble ≡ None → d.inner ≡ []) → Sifts q a d (is_kept w) (inside_of w sc) 5
   sifted top kept keep next not_kept pop inner none =

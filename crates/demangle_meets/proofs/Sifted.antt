@@ -66,17 +66,17 @@ module _ {p : Place} {is_kept : Core → Bool} {doing : Core → Job Core × Sco
 
   -- The top item is kept.
   pub sifts_kept : {a m b : Page} {n : ℕ} {h : Held Core} {hs : List (Held Core)} →
-      (a.trouble ≡ None → a.inner ≡ h ∷ hs) → is_kept h.item ≡ true → KeepsTop p.level a m h →
+      (a.trouble ≡ None → a.inner ≡ h ∷ hs) → is_kept h.item ≡ true → KeepsTop a m h →
       Sifts p m b is_kept doing n → Sifts p a b is_kept doing (suc n)
   sifts_kept {a} {m} {b} {n} {h} {hs} top is d q =
       record {
         goes = item_at p is_kept doing n top is (goes_as (λ _. sym (after_none _)) (λ _ r. r)
-            (goes_then (d.at_place p refl) q.goes
+            (goes_then (d.at_place p) q.goes
             (λ (r : IsReady a.aside (at p.level a)
             × SiftsAll (deeper p) (fitting p) is_kept doing a.aside n (keeping h (at p.level a))). r.0)
             (λ z y r. subst (λ u. SiftsAll (deeper p) (fitting p) is_kept doing u n (at p.level m))
             (sym (d.same.is z y))
-            (goes_after (SiftsAll (deeper p) (fitting p) is_kept doing a.aside n) (d.at_place p refl) z y r.1))));
+            (goes_after (SiftsAll (deeper p) (fitting p) is_kept doing a.aside n) (d.at_place p) z y r.1))));
         same = keeps_then d.same q.goes q.same;
       }
 
@@ -105,7 +105,7 @@ module _ {p : Place} {is_kept : Core → Bool} {doing : Core → Job Core × Sco
 
   pub then_kept : {a c m : Page} {n k : ℕ} {h : Held Core} {hs : List (Held Core)} →
       RemainsToSift p a c is_kept doing n (suc k) → (c.trouble ≡ None → c.inner ≡ h ∷ hs) → is_kept h.item ≡ true →
-      KeepsTop p.level c m h → RemainsToSift p a m is_kept doing n k
+      KeepsTop c m h → RemainsToSift p a m is_kept doing n k
   then_kept w top is d = record { rest = λ b q. w.rest b (sifts_kept top is d q) }
 
   pub then_done : {a c m o : Page} {n k : ℕ} {h : Held Core} {hs : List (Held Core)} →
@@ -116,7 +116,7 @@ module _ {p : Place} {is_kept : Core → Bool} {doing : Core → Job Core × Sco
 
 -- All items are done or kept; then the kept ones are the items.
 pub meets_sift : {p : Place} {a m n b : Page} {is_kept : Core → Bool} {doing : Core → Job Core × Scope Core}
-    {k : Act Core} → Sifts p a m is_kept doing (length a.inner) → Returns p.level (length a.kept) m n →
+    {k : Act Core} → Sifts p a m is_kept doing (length a.inner) → Returns (length a.kept) m n →
     Meets p n b k → Meets p a b (sift is_kept doing k)
 unfolding act Does
 meets_sift {p} {a} {m} {n} {b} {is_kept} {doing} {k} d e q =
@@ -129,9 +129,9 @@ meets_sift {p} {a} {m} {n} {b} {is_kept} {doing} {k} d e q =
     let
     behind : Goes p m b (λ t. act (deeper p) k (back t)) (Behind m.aside (at p.level m)) =
     goes_as (λ _. sym (after_none _)) (λ _ v. v)
-    (goes_then (e.at_place p refl) q.goes (λ (v : Behind m.aside (at p.level m)). v.0)
+    (goes_then (e.at_place p) q.goes (λ (v : Behind m.aside (at p.level m)). v.0)
     (λ z y v. subst (λ u. Ready p k u (at p.level n)) (sym (e.same.is z y))
-    (goes_after (Ready p k m.aside) (e.at_place p refl) z y v.1)))
+    (goes_after (Ready p k m.aside) (e.at_place p) z y v.1)))
     in
     let
     whole : Goes p a b
@@ -143,5 +143,5 @@ meets_sift {p} {a} {m} {n} {b} {is_kept} {doing} {k} d e q =
     in
     record {
       goes = goes_as (λ _. refl) (λ _ v. v) whole;
-      same = keeps_then (keeps_then d.same (e.at_place p refl) e.same) q.goes q.same;
+      same = keeps_then (keeps_then d.same (e.at_place p) e.same) q.goes q.same;
     }

@@ -1,6 +1,6 @@
 -- The steps of a context, from what its calls did to the page.
 use Rattle.std.proofs.Common.{◌≡◌, ℕ, ◌+◌, ◌≤◌, List, [], true, false, length, map}
-use Rattle.std.proofs.Common.{Some, None, refl, sym, ◌∙◌, ap, subst}
+use Rattle.std.proofs.Common.{Option, Some, None, refl, sym, ◌∙◌, ap, subst}
 use Rattle.demangle_core.specs.Core.{Core}
 use Rattle.demangle_printing.specs.State.{Event, byte, Fault, TooLong, State, Answer, yes, no, written, wrote}
 use Rattle.demangle_printing.specs.State.{has_room}
@@ -8,6 +8,8 @@ use Rattle.demangle_meets.specs.Seen.{Told}
 use Rattle.demangle_meets.specs.Page.{Page, Trouble, fault, lost, Loss, failed, refused, full, at}
 use Rattle.demangle_meets.specs.Place.{Place}
 use Rattle.demangle_meets.specs.Goes.{events, Rose, Counts, Goes}
+use Rattle.demangle_meets.specs.Calls.{Steps}
+use Rattle.demangle_meets.proofs.Heard.{told_nothing}
 use Rattle.demangle_meets.proofs.Told.{stand_none}
 use Rattle.demangle_meets.proofs.Goes.{no_trouble, counts_same}
 
@@ -16,6 +18,9 @@ pub record Quiet (a b : Page) : Type 0 where
   pub faults : b.seen.faults ≡ a.seen.faults
   pub refusals : b.seen.refusals ≡ a.seen.refusals
   pub fixed : b.fixed ≡ a.fixed
+
+pub quiet_same : {a : Page} → Quiet a a
+quiet_same = record { faults = refl; refusals = refl; fixed = refl }
 
 -- after trouble
 pub goes_stopped : {p : Place} {a b : Page} {g : State Core → Answer Core} {S : Type 0} (t : Trouble) →
@@ -46,6 +51,39 @@ goes_on {p} {a} {b} m n o e told q =
       faults = counts_same q.faults (λ _ z. no_trouble (lost failed) b.trouble o z);
       refusals = counts_same q.refusals (λ _ z. no_trouble (lost refused) b.trouble o z);
       stays = λ t z. no_trouble t a.trouble n z;
+    }
+
+-- Nothing is told, and the state is changed so.
+pub goes_quietly : {p : Place} {a b : Page} {S : Type 0} (to : State Core → State Core) → b.seen ≡ a.seen →
+    b.fixed ≡ a.fixed → b.trouble ≡ a.trouble → to (at p.level a) ≡ at p.level b →
+    Goes p a b (λ s. yes [] (to s)) S
+goes_quietly {p} {a} {b} {S} to seen fixed same e = by a.trouble refl
+  where
+    told : Told a.seen b.seen []
+    told = subst (λ z. Told a.seen z []) (sym seen) (told_nothing a.seen)
+
+    quiet : Quiet a b
+    quiet = record { faults = ap (λ z. z.faults) seen; refusals = ap (λ z. z.refusals) seen; fixed = fixed }
+
+    by : (o : Option Trouble) → a.trouble ≡ o → Goes p a b (λ s. yes [] (to s)) S
+    by None n = goes_on [] n (same ∙ n) (ap (yes []) e) told quiet
+    by (Some t) n = goes_stopped t n told same quiet
+
+pub changes : {a b : Page} (to : State Core → State Core) → b.seen ≡ a.seen → b.fixed ≡ a.fixed →
+    b.trouble ≡ a.trouble → b.aside ≡ a.aside → ((l : ℕ) → to (at l a) ≡ at l b) →
+    Steps a b (λ s. yes [] (to s))
+changes to seen fixed same aside e =
+    record {
+      at_place = λ p. goes_quietly to seen fixed same (e p.level);
+      same = record { is = λ _ _. aside };
+    }
+
+-- Behind trouble nothing is done.
+pub steps_stopped : {a : Page} {g : State Core → Answer Core} (t : Trouble) → a.trouble ≡ Some t → Steps a a g
+steps_stopped {a} t e =
+    record {
+      at_place = λ p. goes_stopped t e (told_nothing a.seen) refl quiet_same;
+      same = record { is = λ _ _. refl };
     }
 
 -- It was a fault.

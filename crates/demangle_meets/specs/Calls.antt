@@ -1,12 +1,13 @@
 -- What the calls of a context do, each one step.
-use Rattle.std.specs.Prelude.{◌≡◌, ℕ, ◌≤◌, Bool, true, false, List, [], ◌∷◌, ◌++◌, length, Some, None}
+use Rattle.std.specs.Prelude.{◌≡◌, ℕ, zero, ◌≤◌, Bool, true, false, List, [], ◌∷◌, ◌++◌, length, Some, None}
 use Rattle.demangle_core.specs.Core.{Core}
-use Rattle.demangle_printing.specs.State.{Kind, opened, closed, Held, State, Answer, yes, pushed, popped, is_own}
+use Rattle.demangle_printing.specs.State.{Kind, opened, closed, TooMuchRecursion, Held, State, Answer, yes, no, pushed}
+use Rattle.demangle_printing.specs.State.{popped, is_own}
 use Rattle.demangle_printing.specs.Act.{keeping, returned}
 use Rattle.demangle_printing.specs.Laws.{IsReady}
 use Rattle.demangle_meets.specs.Seen.{Told}
 use Rattle.demangle_meets.specs.Page.{Page, Trouble, at}
-use Rattle.demangle_meets.specs.Place.{Place}
+use Rattle.demangle_meets.specs.Place.{Place, IsDeeper}
 use Rattle.demangle_meets.specs.Goes.{Goes, ends}
 
 -- The items that are set aside are as before.
@@ -18,6 +19,16 @@ pub record Steps (a b : Page) (go : State Core → Answer Core) : Type 0 where
   pub at_place : (p : Place) → Goes p a b go (Unit {0})
   pub same : Keeps a b
 
+-- A level is entered.
+pub record Enters (p q : Place) (a b : Page) : Type 0 where
+  pub deeper : IsDeeper p q
+  pub step : Steps a b (λ s. yes [] s)
+
+-- None is, since none is left, or since printing has stopped.
+pub record Stops (p : Place) (a b : Page) : Type 0 where
+  pub left : a.trouble ≡ None → p.left ≡ zero
+  pub step : Steps a b (λ s. no [] TooMuchRecursion)
+
 -- An item is pushed at a level.
 pub record Pushes (l : ℕ) (a b : Page) (x : Core) : Type 0 where
   pub at_place : (p : Place) → p.level ≡ l → Goes p a b (λ s. yes [] (pushed x s)) (IsReady a.aside (at p.level a))
@@ -28,14 +39,27 @@ abbrev pub PopsOwn : ℕ → Page → Page → Bool → Type 0
 PopsOwn l a b true = (a.trouble ≡ None → is_own (at l a) ≡ true) × Steps a b (λ s. yes [] (popped s))
 PopsOwn l a b false = (a.trouble ≡ None → is_own (at l a) ≡ false) × Steps a b (λ s. yes [] s)
 
+-- The top item is popped, and which it was.
+pub record TakesTop (a b : Page) (x : Core) : Type 0 where
+  pub held : Held Core
+  pub others : List (Held Core)
+  pub top : a.trouble ≡ None → a.inner ≡ held ∷ others
+  pub is : held.item ≡ x
+  pub step : Steps a b (λ s. yes [] (popped s))
+
+-- There is no item.
+pub record TakesNone (a b : Page) : Type 0 where
+  pub none : a.trouble ≡ None → a.inner ≡ []
+  pub step : Steps a b (λ s. yes [] s)
+
 -- The top item is kept.
-pub record KeepsTop (l : ℕ) (a b : Page) (h : Held Core) : Type 0 where
-  pub at_place : (p : Place) → p.level ≡ l → Goes p a b (λ s. yes [] (keeping h s)) (IsReady a.aside (at p.level a))
+pub record KeepsTop (a b : Page) (h : Held Core) : Type 0 where
+  pub at_place : (p : Place) → Goes p a b (λ s. yes [] (keeping h s)) (IsReady a.aside (at p.level a))
   pub same : Keeps a b
 
 -- The items that were kept since there were so many are items again.
-pub record Returns (l count : ℕ) (a b : Page) : Type 0 where
-  pub at_place : (p : Place) → p.level ≡ l → Goes p a b (λ s. yes [] (returned count s))
+pub record Returns (count : ℕ) (a b : Page) : Type 0 where
+  pub at_place : (p : Place) → Goes p a b (λ s. yes [] (returned count s))
       (IsReady a.aside (returned count (at p.level a)))
   pub same : Keeps a b
 

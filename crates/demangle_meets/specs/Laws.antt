@@ -84,7 +84,8 @@ LeavesSome = (p : Place) (a b : Page) (j : Job Core) (sc : Scope Core) → Meets
 
 -- What is fixed stays so, with trouble too.
 abbrev pub StaysFixed : Type 0
-StaysFixed = (p : Place) (a b : Page) (j : Job Core) (sc : Scope Core) → Meets p a b (call j sc done) → b.fixed ≡ a.fixed
+StaysFixed = (p : Place) (a b : Page) (j : Job Core) (sc : Scope Core) → Meets p a b (call j sc done) →
+    b.fixed ≡ a.fixed
 
 -- ---- what was told
 -- All of it was told, and each node that begins ends.

@@ -3,10 +3,10 @@ use Rattle.std.specs.Prelude.{ℕ, List, Bool, Some}
 use Rattle.demangle_core.specs.Core.{Core}
 use Rattle.demangle_printing.specs.State.{Held, State, Answer, is_own}
 use Rattle.demangle_printing.specs.Scope.{Scope}
-use Rattle.demangle_printing.specs.Act.{Job, Act, done, act, owned, sifted}
-use Rattle.demangle_printing.specs.Rules.{line_of, inner_of, lines_after, members_after, turns, rvalues}
+use Rattle.demangle_printing.specs.Act.{Job, line, Act, done, act, owned, sifted}
+use Rattle.demangle_printing.specs.Rules.{line_of, inside_of, inner_of, lines_after, members_after, turns, rvalues}
 use Rattle.demangle_printing.specs.Arrays.{array_turns}
-use Rattle.demangle_printing.specs.Print.{print}
+use Rattle.demangle_printing.specs.Print.{body, print}
 use Rattle.demangle_printing.specs.Laws.{Does, OwnDoes, SiftsAll, BeginsFitting}
 use Rattle.demangle_meets.specs.Page.{Page, at}
 use Rattle.demangle_meets.specs.Goes.{Goes}
@@ -37,6 +37,15 @@ pub record Prints (p : Place) (a b : Page) (x : Core) (sc : Scope Core) : Type 0
 -- What of an item stands behind.
 pub record Inner (p : Place) (a b : Page) (x : Core) (sc : Scope Core) : Type 0 where
   pub meets : Meets p a b (inner_of (world_of p.refers) x sc done)
+
+-- The line of a node, its level entered.
+pub record Line (p : Place) (a b : Page) (x : Core) (sc : Scope Core) : Type 0 where
+  pub meets : Meets p a b (body (world_of p.refers) (line x) sc)
+
+-- What of an item stands behind, its level entered.
+pub record Inside (p : Place) (a b : Page) (x : Core) (sc : Scope Core) : Type 0 where
+  pub meets : Meets p a b (body (world_of p.refers) (inside_of (world_of p.refers) sc x).0
+      (inside_of (world_of p.refers) sc x).1)
 
 -- Where the item that was pushed at this level is on top, it is popped, and its own act done.
 pub record Closes (p : Place) (a b : Page) (own : Act Core) : Type 0 where

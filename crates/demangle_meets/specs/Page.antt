@@ -17,14 +17,13 @@ pub data Trouble : Type 0 where
   lost : Loss → Trouble
 
 -- What stays as it is while one prints: for how many items each stack has room from the beginning; the context's own
--- level and limit; what the trees refer to; the references to the listener and to the context, by their names.
+-- level and limit; what the trees refer to; the reference to the listener, by its name.
 pub record Fixed : Type 0 where
   pub reserved : ℕ
   pub level : ℕ
   pub limit : ℕ
   pub refers : Refers
   pub listener : ℕ
-  pub context : ℕ
 
 -- Items stand newest first; those that are set aside last are the first of `aside`.
 pub record Page : Type 0 where

@@ -4,11 +4,12 @@ ghost use Rattle.std.specs.Prelude.{◌≡◌, option_map};
 ghost use Rattle.demangle_scope.specs.ItemTree.{array_type_in, array_type_of, function_type_in, function_type_of};
 ghost use Rattle.demangle_scope.specs.ItemTree.{is_qualified_in, is_qualified_node, member_type_in, member_type_of};
 ghost use Rattle.demangle_scope.specs.ItemTree.{item_tree, type_in};
+ghost use Rattle.demangle_table.specs.TableOf.{table_of};
 
-use demangle_context::InnerNode;
+use demangle_context::{InnerNode, RefersTo};
 use demangle_tree::{
     ArrayType, BareFunctionType, CvQualifiers, Encoding, FunctionType, PointerToMemberType,
-    TypeNode, VectorType,
+    SubstitutionTable, TypeNode, VectorType,
 };
 
 /// A node of which a part stands behind what is printed next, as the parameters of a function behind its name, or the
@@ -127,4 +128,8 @@ impl<'subs> InnerItem<'subs> {
 
 impl<'subs> InnerNode for InnerItem<'subs> {
     ghost tree = { item_tree };
+}
+
+impl<'subs> RefersTo<SubstitutionTable> for InnerItem<'subs> {
+    ghost table = { table_of };
 }

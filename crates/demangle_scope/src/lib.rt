@@ -9,7 +9,7 @@ mod scope;
 pub use context::DemangleContext;
 pub use demangle_context::{
     DemangleError, DemangleFlags, DemangleNodeType, DemangleOptions, DemangleWrite, InnerBarrier,
-    InnerItems, SinkFault, TextSink,
+    InnerItems, PrintFault, PrintFlag, SinkFault, TextSink,
 };
 pub use inner::InnerItem;
 pub use scope::{
