@@ -1,0 +1,3 @@
+pub mod PageOf
+pub mod PlaceOf
+pub mod MayPrint

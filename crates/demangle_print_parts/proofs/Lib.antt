@@ -1,0 +1,9 @@
+pub mod References
+pub mod Itself
+pub mod Scopes
+pub mod Spellings
+pub mod Each
+pub mod WordOperators
+pub mod Components
+pub mod Commas
+pub mod Decimals

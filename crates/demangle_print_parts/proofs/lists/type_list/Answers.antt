@@ -1,0 +1,29 @@
+use Rattle.std.proofs.Common.{map, rules, sym}
+use Rattle.std.proofs.lemmas.List.{drop_more}
+use Rattle.demangle_leaf_nodes.specs.TreeLeaves.{tree_of_type_handle}
+use Rattle.demangle_printing.specs.Rules.{lines_of}
+use Rattle.demangle_meets.specs.Place.{world_of}
+use Rattle.demangle_meets.proofs.Acts.{meets_done}
+use Rattle.demangle_meets.proofs.Parts.{meets_at}
+use Rattle.demangle_scope.specs.ScopeOf.{scope_of}
+use Rattle.demangle_print_parts.proofs.Commas.{is_empty, list_begins, list_next, list_over}
+use Rattle.demangle_print_parts.proofs.lists.type_list.Goals as goal
+
+pub returns-in_default : goal.returns-in_default
+returns-in_default g c =
+    meets_at
+    (λ xs. lines_of (world_of (g.B.Below.at c.args.below).refers) (map tree_of_type_handle xs) (scope_of c.args.scope))
+    (sym (is_empty c.args.nodes.now c.in_default.ensures.cases)) meets_done
+
+pub loop-node-init : goal.loop-node-init
+loop-node-init g c =
+    list_begins tree_of_type_handle c.args.nodes.now c.in-Some.rest.now c.in-Some.first.now c.type_handle.ensures
+    c.in-Some.ensures.cases.0
+
+pub loop-node-preserved : goal.loop-node-preserved
+loop-node-preserved g c =
+    list_next tree_of_type_handle c.in-Some.rest.now c.loop-node.node-index _ c.loop-node.invariant
+    c.text.ensures c.type_handle-in-loop-node.ensures (search (rules, drop_more))
+
+pub returns : goal.returns
+returns g c = list_over tree_of_type_handle _ _ c.loop-node.invariant c.loop-node-test.false

@@ -1,0 +1,4 @@
+pub mod Arguments
+pub mod Builtins
+pub mod Decltypes
+pub mod Pieces
