@@ -1,0 +1,10 @@
+use Rattle.demangle_meets.proofs.Parts.{prints_deep, prints_line}
+use Rattle.demangle_print_types.proofs.Itself.{type_is_itself}
+use Rattle.demangle_print_types.proofs.types.type_node.Goals as goal
+
+pub returns-in_default : goal.returns-in_default
+returns-in_default g c = prints_deep (type_is_itself _ c.args.node.now) c.in_default.ensures
+
+pub returns : goal.returns
+returns g c =
+    prints_line (type_is_itself _ c.args.node.now) c.in-Some.ensures.0 c.type_node_steps.ensures

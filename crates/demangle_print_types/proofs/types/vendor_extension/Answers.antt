@@ -1,0 +1,8 @@
+use Rattle.demangle_meets.proofs.Acts.{meets_done, meets_text}
+use Rattle.demangle_meets.proofs.Parts.{meets_part}
+use Rattle.demangle_print_types.proofs.types.vendor_extension.Goals as goal
+
+pub returns : goal.returns
+returns g c =
+    meets_part c.type_handle.ensures (meets_text c.text.ensures (meets_part (c.source_name.ensures _)
+    (meets_part c.optional_template_args.ensures meets_done)))
