@@ -1,0 +1,5 @@
+pub mod Chosen
+pub mod Itself
+pub mod Lists
+pub mod Signs
+pub mod Words

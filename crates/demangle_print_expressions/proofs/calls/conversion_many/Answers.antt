@@ -1,0 +1,16 @@
+use Rattle.demangle_nodes.specs.TreeNodes.{parts_of_expression, tag_of_expression}
+use Rattle.demangle_printing.specs.Print.{body}
+use Rattle.demangle_printing.specs.Lines.{line_steps}
+use Rattle.demangle_meets.proofs.Acts.{meets_done, meets_text}
+use Rattle.demangle_meets.proofs.Parts.{meets_part}
+use Rattle.demangle_scope.specs.ScopeOf.{scope_of}
+use Rattle.demangle_print_expressions.proofs.Lists.{meets_list}
+use Rattle.demangle_print_expressions.proofs.calls.conversion_many.Goals as goal
+
+pub returns : goal.returns
+unfolding body line_steps
+returns g c =
+    record {
+      meets = meets_part c.type_handle.ensures (meets_text c.text.ensures (meets_list (scope_of c.args.scope)
+          tag_of_expression parts_of_expression _ c.expression_list.ensures (meets_text c.text-2.ensures meets_done)));
+    }

@@ -1,0 +1,13 @@
+use Rattle.demangle_printing.specs.Print.{body}
+use Rattle.demangle_printing.specs.Lines.{line_steps}
+use Rattle.demangle_meets.proofs.Acts.{meets_block, meets_done, meets_text}
+use Rattle.demangle_meets.proofs.Parts.{meets_part}
+use Rattle.demangle_print_expressions.proofs.members.member.Goals as goal
+
+pub returns : goal.returns
+unfolding body line_steps
+returns g c =
+    record {
+      meets = meets_block c.operand.ensures (meets_text c.text.ensures (meets_part c.member_name.ensures
+          meets_done));
+    }

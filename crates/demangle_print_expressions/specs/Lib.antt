@@ -1,0 +1,4 @@
+pub mod Made
+pub mod Shapes
+pub mod Literals
+pub mod Levels
