@@ -1,3 +1,2 @@
 pub mod PageOf
 pub mod PlaceOf
-pub mod MayPrint

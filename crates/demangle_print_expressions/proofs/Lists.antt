@@ -1,5 +1,5 @@
 -- Lists as parts of nodes.
-use Rattle.std.proofs.Common.{◌≡◌, List, [], ◌∷◌, map, Some, refl, sym, ap}
+use Rattle.std.proofs.Common.{List, map, Some, sym}
 use Rattle.demangle_core.specs.Core.{Tag, Core, node, end, trees}
 use Rattle.demangle_nodes.specs.declared.nodes.UnresolvedQualifierLevel.{UnresolvedQualifierLevel}
 use Rattle.demangle_nodes.specs.TreeNodes.{tag_of_unresolved_qualifier_level, parts_of_unresolved_qualifier_level}
@@ -9,17 +9,12 @@ use Rattle.demangle_printing.specs.Scope.{Scope}
 use Rattle.demangle_printing.specs.Act.{Act, block, done}
 use Rattle.demangle_printing.specs.Rules.{lines_of}
 use Rattle.demangle_meets.specs.Page.{Page}
-use Rattle.demangle_meets.specs.Place.{Place, Refers, world_of}
+use Rattle.demangle_meets.specs.Place.{Place, world_of}
 use Rattle.demangle_meets.specs.Meets.{Meets}
 use Rattle.demangle_meets.proofs.Acts.{meets_done, meets_block}
 use Rattle.demangle_meets.proofs.Parts.{meets_found}
-use Rattle.demangle_print_parts.proofs.Each.{trees_are}
+use Rattle.demangle_print_parts.proofs.Listed.{trees_listed}
 use Rattle.demangle_print_expressions.specs.Levels.{levels_of}
-
-pub listed-trees : {A : Type 0} (r : Refers) (t : A → Tag) (q : A → Core) (xs : List A) →
-    listed (world_of r) (Some (node Tag.Several (trees t q xs) end)) ≡ map (λ x. node (t x) (q x) end) xs
-listed-trees r t q [] = refl
-listed-trees r t q (x ∷ xs) = ap (λ l. node (t x) (q x) end ∷ l) (trees_are t q xs)
 
 -- a list with commas, and what comes behind it
 pub meets_list : {A : Type 0} {p : Place} {a m b : Page} {k : Act Core} (sc : Scope Core) (t : A → Tag)
@@ -29,7 +24,7 @@ pub meets_list : {A : Type 0} {p : Place} {a m b : Page} {k : Act Core} (sc : Sc
     (block (lines_of (world_of p.refers) (listed (world_of p.refers) (Some (node Tag.Several (trees t q xs) end)))
     sc) k)
 meets_list {p = p} sc t q xs d e =
-    meets_found (λ ys. lines_of (world_of p.refers) ys sc) (sym (listed-trees p.refers t q xs)) d e
+    meets_found (λ ys. lines_of (world_of p.refers) ys sc) (sym (trees_listed p.refers t q xs)) d e
 
 -- the levels of a name that isn't resolved, and what comes behind them
 pub meets_levels : {p : Place} {a m b : Page} {k : Act Core} (sc : Scope Core) (xs : List UnresolvedQualifierLevel) →
@@ -43,5 +38,5 @@ pub meets_levels : {p : Place} {a m b : Page} {k : Act Core} (sc : Scope Core) (
     done) k)
 meets_levels {p = p} sc xs d e =
     meets_block (meets_found (λ ys. levels_of (world_of p.refers) sc ys)
-    (sym (listed-trees p.refers tag_of_unresolved_qualifier_level parts_of_unresolved_qualifier_level xs)) d
+    (sym (trees_listed p.refers tag_of_unresolved_qualifier_level parts_of_unresolved_qualifier_level xs)) d
     meets_done) e

@@ -3,6 +3,7 @@ pub mod Itself
 pub mod Scopes
 pub mod Spellings
 pub mod Each
+pub mod Listed
 pub mod WordOperators
 pub mod Components
 pub mod Commas

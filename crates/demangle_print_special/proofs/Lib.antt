@@ -1,3 +1,2 @@
 pub mod Itself
 pub mod Characters
-pub mod Listed

@@ -1,21 +1,15 @@
 -- The types of a function as parts of its node.
 use Rattle.std.proofs.Common.{◌≡◌, List, [], ◌∷◌, map, drop, Some, refl, sym, ◌∙◌, ap}
-use Rattle.demangle_core.specs.Core.{Tag, Core, node, end, trees}
 use Rattle.demangle_leaf_nodes.specs.declared.leaves.BareFunctionType.{BareFunctionType}
 use Rattle.demangle_leaf_nodes.specs.TreeLeaves.{parts_of_bare_function_type, parts_of_type_handle, tag_of_type_handle}
 use Rattle.demangle_leaf_nodes.specs.TreeLeaves.{tree_of_type_handle}
 use Rattle.demangle_printing.specs.World.{listed}
 use Rattle.demangle_meets.specs.Place.{Refers, world_of}
-use Rattle.demangle_print_parts.proofs.Each.{trees_are}
-
-listed-trees : {A : Type 0} (r : Refers) (t : A → Tag) (q : A → Core) (xs : List A) →
-    listed (world_of r) (Some (node Tag.Several (trees t q xs) end)) ≡ map (λ x. node (t x) (q x) end) xs
-listed-trees r t q [] = refl
-listed-trees r t q (x ∷ xs) = ap (λ l. node (t x) (q x) end ∷ l) (trees_are t q xs)
+use Rattle.demangle_print_parts.proofs.Listed.{trees_listed}
 
 pub types_listed : (r : Refers) (x : BareFunctionType) →
     listed (world_of r) (Some (parts_of_bare_function_type x)) ≡ map tree_of_type_handle x.0.items
-types_listed r x = listed-trees r tag_of_type_handle parts_of_type_handle x.0.items
+types_listed r x = trees_listed r tag_of_type_handle parts_of_type_handle x.0.items
 
 drop-map : {A B : Type 0} (f : A → B) (xs : List A) → map f (drop 1 xs) ≡ drop 1 (map f xs)
 drop-map f [] = refl

@@ -7,7 +7,7 @@ use Rattle.demangle_printing.specs.Step.{Step}
 use Rattle.demangle_meets.proofs.Acts.{meets_block, meets_done, meets_text}
 use Rattle.demangle_meets.proofs.Parts.{meets_at, meets_part, prints_deep, prints_node}
 use Rattle.demangle_meets.specs.Place.{world_of}
-use Rattle.demangle_print_special.proofs.Listed.{numbers_listed}
+use Rattle.demangle_print_parts.proofs.Listed.{numbers_listed}
 use Rattle.demangle_print_parts.specs.Pieces.{each_of}
 use Rattle.demangle_print_names.proofs.suffixes.clone_suffix.Goals as goal
 

@@ -7,7 +7,7 @@ use Rattle.demangle_meets.specs.Place.{world_of}
 use Rattle.demangle_meets.proofs.Acts.{meets_block, meets_choose_off, meets_choose_on, meets_done}
 use Rattle.demangle_meets.proofs.Parts.{meets_at}
 use Rattle.demangle_print_parts.specs.Pieces.{each_of}
-use Rattle.demangle_print_special.proofs.Listed.{trees_listed}
+use Rattle.demangle_print_parts.proofs.Listed.{trees_listed}
 use Rattle.demangle_print_names.proofs.suffixes.shown_suffixes.Goals as goal
 
 pub returns-then-is_on : goal.returns-then-is_on

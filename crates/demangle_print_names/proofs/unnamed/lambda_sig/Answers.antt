@@ -8,7 +8,7 @@ use Rattle.demangle_meets.proofs.Acts.{meets_block, meets_done, meets_set}
 use Rattle.demangle_meets.proofs.Parts.{meets_at, prints_deep, prints_node}
 use Rattle.demangle_meets.specs.Place.{world_of}
 use Rattle.demangle_scope.specs.ScopeOf.{scope_of}
-use Rattle.demangle_print_special.proofs.Listed.{trees_listed}
+use Rattle.demangle_print_parts.proofs.Listed.{trees_listed}
 use Rattle.demangle_print_names.proofs.unnamed.lambda_sig.Goals as goal
 
 pub returns-in_default : goal.returns-in_default

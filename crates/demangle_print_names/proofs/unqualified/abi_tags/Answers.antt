@@ -7,7 +7,7 @@ use Rattle.demangle_printing.specs.Step.{Step}
 use Rattle.demangle_meets.proofs.Acts.{meets_block, meets_done}
 use Rattle.demangle_meets.proofs.Parts.{meets_at, prints_deep, prints_node}
 use Rattle.demangle_meets.specs.Place.{world_of}
-use Rattle.demangle_print_special.proofs.Listed.{trees_listed}
+use Rattle.demangle_print_parts.proofs.Listed.{trees_listed}
 use Rattle.demangle_print_parts.specs.Pieces.{each_of}
 use Rattle.demangle_print_names.proofs.unqualified.abi_tags.Goals as goal
 

@@ -20,7 +20,7 @@ use Rattle.demangle_meets.proofs.Parts.{line_parts, meets_at}
 use Rattle.demangle_meets.specs.Place.{world_of}
 use Rattle.demangle_scope.specs.ScopeOf.{scope_of}
 use Rattle.demangle_print_parts.specs.Pieces.{each_of}
-use Rattle.demangle_print_special.proofs.Listed.{trees_listed}
+use Rattle.demangle_print_parts.proofs.Listed.{trees_listed}
 use Rattle.demangle_print_special.proofs.special.special_name_steps.Goals as goal
 
 pub returns-in-VirtualTable : goal.returns-in-VirtualTable
