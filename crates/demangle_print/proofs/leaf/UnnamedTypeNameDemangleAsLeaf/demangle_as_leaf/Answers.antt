@@ -1,0 +1,6 @@
+use Rattle.std.specs.Prelude.{[]}
+use Rattle.demangle_print.proofs.Begun.{demangled_leaf}
+use Rattle.demangle_print.proofs.leaf.UnnamedTypeNameDemangleAsLeaf.demangle_as_leaf.Goals as goal
+
+pub returns : goal.returns
+returns g c = demangled_leaf c.begin-printer.ensures (c.unnamed_leaf.ensures []) c.answer.ensures

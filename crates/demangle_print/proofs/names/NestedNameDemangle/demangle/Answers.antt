@@ -1,0 +1,5 @@
+use Rattle.demangle_print.proofs.Begun.{demangled}
+use Rattle.demangle_print.proofs.names.NestedNameDemangle.demangle.Goals as goal
+
+pub returns : goal.returns
+returns g c = demangled c.begin-printer.ensures c.nested_name.ensures c.answer.ensures

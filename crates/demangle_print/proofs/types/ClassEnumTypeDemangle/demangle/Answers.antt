@@ -1,0 +1,5 @@
+use Rattle.demangle_print.proofs.Begun.{demangled}
+use Rattle.demangle_print.proofs.types.ClassEnumTypeDemangle.demangle.Goals as goal
+
+pub returns : goal.returns
+returns g c = demangled c.begin-printer.ensures c.class_enum_type.ensures c.answer.ensures

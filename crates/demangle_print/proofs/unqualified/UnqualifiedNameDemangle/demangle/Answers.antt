@@ -1,0 +1,5 @@
+use Rattle.demangle_print.proofs.Begun.{demangled}
+use Rattle.demangle_print.proofs.unqualified.UnqualifiedNameDemangle.demangle.Goals as goal
+
+pub returns : goal.returns
+returns g c = demangled c.begin-printer.ensures c.unqualified_name.ensures c.answer.ensures
