@@ -57,74 +57,74 @@ module _ {a b : Page} {go : State Core → Answer Core} {ready : Type 0} {r : Re
     (below : a.fixed.level < a.fixed.limit) (reserved : a.fixed.reserved ≡ reserve a.fixed.limit)
     (tidy : IsTidy a (go (state a)) ready)
     (goes : Goes (place_in a.fixed) (begun a) b go ready) (same : Keeps (begun a) b) (answer : r ≡ answer_of b.trouble)
-    where
-  finishes : b.trouble ≡ None → Finishes a b (go (state a))
-  finishes z =
-      let y = goes.done refl z in
-      record {
-        told = record {
-          all = y.all;
+  where
+    finishes : b.trouble ≡ None → Finishes a b (go (state a))
+    finishes z =
+        let y = goes.done refl z in
+        record {
+          told = record {
+            all = y.all;
+            is = y.is;
+            told = y.told;
+            are_closed = subst AreBracketed y.is tidy.brackets;
+          };
+          items = record {
+            leaves = goes_after (Leaves (state a)) goes refl z tidy.leaves;
+            aside = same.is refl z;
+          };
+          fitting = λ f. subst (λ u. IsFitting u (at a.fixed.level b)) (sym (same.is refl z))
+              (goes_after (IsFitting a.aside) goes refl z (tidy.fits f).1);
+        }
+
+    stopped : (f : Fault) → b.trouble ≡ Some (fault f) → WasStopped a.seen b.seen (go (state a)) f
+    stopped f z =
+        let y = goes.stopped f refl z in
+        let o : AreOpen y.before = subst AreBracketed y.is tidy.brackets in
+        let k : o.0 + 0 ≡ o.0 = omega arith in
+        record {
+          before = y.before;
+          ended = y.ended;
+          stand_open = o.0;
           is = y.is;
           told = y.told;
-          are_closed = subst AreBracketed y.is tidy.brackets;
-        };
-        items = record {
-          leaves = goes_after (Leaves (state a)) goes refl z tidy.leaves;
-          aside = same.is refl z;
-        };
-        fitting = λ f. subst (λ u. IsFitting u (at a.fixed.level b)) (sym (same.is refl z))
-            (goes_after (IsFitting a.aside) goes refl z (tidy.fits f).1);
-      }
+          are_open = o.1;
+          no_more = subst (λ n. y.ended ≤ n) k (y.were_open 0 (o.0 + 0) (o.1 0));
+        }
 
-  stopped : (f : Fault) → b.trouble ≡ Some (fault f) → WasStopped a.seen b.seen (go (state a)) f
-  stopped f z =
-      let y = goes.stopped f refl z in
-      let o : AreOpen y.before = subst AreBracketed y.is tidy.brackets in
-      let k : o.0 + 0 ≡ o.0 = omega arith in
-      record {
-        before = y.before;
-        ended = y.ended;
-        stand_open = o.0;
-        is = y.is;
-        told = y.told;
-        are_open = o.1;
-        no_more = subst (λ n. y.ended ≤ n) k (y.were_open 0 (o.0 + 0) (o.1 0));
-      }
+    breaks : (c : Loss) → b.trouble ≡ Some (lost c) → Breaks a b (go (state a))
+    breaks c z =
+        let y = goes.cut c refl z in
+        let all = events_open (go (state a)) tidy.brackets in
+        let o = open_front y.front y.others (open_behind y.front (Some 0)) refl
+        (all.0, ap (λ m. open_behind m (Some 0)) (sym y.is) ∙ all.1) in
+        record {
+          front = y.front;
+          others = y.others;
+          ended = y.ended;
+          stand_open = o.0;
+          is = y.is;
+          told = y.told;
+          are_open = o.1;
+          no_more = y.were_open 0 o.0 o.1;
+        }
 
-  breaks : (c : Loss) → b.trouble ≡ Some (lost c) → Breaks a b (go (state a))
-  breaks c z =
-      let y = goes.cut c refl z in
-      let all = events_open (go (state a)) tidy.brackets in
-      let o = open_front y.front y.others (open_behind y.front (Some 0)) refl
-      (all.0, ap (λ m. open_behind m (Some 0)) (sym y.is) ∙ all.1) in
-      record {
-        front = y.front;
-        others = y.others;
-        ended = y.ended;
-        stand_open = o.0;
-        is = y.is;
-        told = y.told;
-        are_open = o.1;
-        no_more = y.were_open 0 o.0 o.1;
-      }
+    ends_by : (t : Option Trouble) → b.trouble ≡ t → Ends a b (go (state a)) (answer_of t)
+    ends_by None z = finishes z
+    ends_by (Some (fault f)) z = at_fault a b (go (state a)) f (stopped f z)
+    ends_by (Some (lost failed)) z = record { breaks = breaks failed z; rose = goes.faults.rose refl z }
+    ends_by (Some (lost refused)) z = record { breaks = breaks refused z; rose = λ f l. goes.refusals.rose refl z }
+    ends_by (Some (lost full)) z =
+        record {
+          breaks = breaks full z;
+          rose = λ f l. absurd (no_room a.fixed.level a.fixed.limit a.fixed.reserved below reserved l
+              (goes.fits refl z (tidy.fits f).0));
+        }
 
-  ends_by : (t : Option Trouble) → b.trouble ≡ t → Ends a b (go (state a)) (answer_of t)
-  ends_by None z = finishes z
-  ends_by (Some (fault f)) z = at_fault a b (go (state a)) f (stopped f z)
-  ends_by (Some (lost failed)) z = record { breaks = breaks failed z; rose = goes.faults.rose refl z }
-  ends_by (Some (lost refused)) z = record { breaks = breaks refused z; rose = λ f l. goes.refusals.rose refl z }
-  ends_by (Some (lost full)) z =
-      record {
-        breaks = breaks full z;
-        rose = λ f l. absurd (no_room a.fixed.level a.fixed.limit a.fixed.reserved below reserved l
-            (goes.fits refl z (tidy.fits f).0));
-      }
-
-  pub answers : Answers a b (go (state a)) r
-  answers =
-      record {
-        ends = subst (Ends a b (go (state a))) (sym answer) (ends_by b.trouble refl);
-        faults = λ h. goes.faults.same refl (λ z. h (answer ∙ ap answer_of z));
-        refusals = λ h. goes.refusals.same refl (λ z. h (answer ∙ ap answer_of z));
-        fixed = goes.fixed;
-      }
+    pub answers : Answers a b (go (state a)) r
+    answers =
+        record {
+          ends = subst (Ends a b (go (state a))) (sym answer) (ends_by b.trouble refl);
+          faults = λ h. goes.faults.same refl (λ z. h (answer ∙ ap answer_of z));
+          refusals = λ h. goes.refusals.same refl (λ z. h (answer ∙ ap answer_of z));
+          fixed = goes.fixed;
+        }

@@ -41,7 +41,6 @@ pub trait Demangle<'subs, W: 'subs + DemangleWrite> {
 
 /// A node of which a part may stand behind what is printed next. The original's trait of this name.
 pub trait DemangleAsInner<'subs, W: 'subs + DemangleWrite>: Demangle<'subs, W> {
-
     ghost as_type: { Self → Option TypeNode };
 
     ghost as_function_type: { Self → Option FunctionType };
