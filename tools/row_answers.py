@@ -5,23 +5,19 @@ Usage: tools/row_answers.py [FILE]   (FILE is tools/readings/rows.jsonl.xz where
 
 FILE has a line for each reading, as cases.py tells them: the repository's own readings, or a file of expected answers
 that was made elsewhere, with limits on levels. Each line that tells no limit but how deep the reading goes is asked
-three times: with ample levels, with just enough, and with one less. A program is made of the crates here, in a folder
-of its own. It holds no proof and is run by `rt try`, so the crates need not be proved. Its answers are the texts of
-`{:?}`: the bytes that are left, the node and the table, or the error and the table.
+three times: with ample levels, with just enough, and with one less. A program is made of the crates here
+(runs.py). Its answers are the texts of `{:?}`: the bytes that are left, the node and the table, or the error and the
+table.
 """
 import os
 import re
-import shutil
-import subprocess
 import sys
-import tempfile
 
 import cases
+import runs
 import syntax
 
-ROOT = os.path.dirname(os.path.dirname(os.path.abspath(__file__)))
 AMPLE = 4096  # levels, where a line tells no limit
-AT_ONCE = 500  # readings in one run of the program, which may not write more than 1 MiB
 SHOWN = 20  # how many wrong answers are printed
 WIDTHS = ("SignedBitIntExpression", "UnsignedBitIntExpression")
 IMPLS = re.compile(r"impl Parse for (\w+)")
@@ -61,28 +57,11 @@ fn read<X: Parse + Debug + Drop>(alloc: Global, asked: &Asked) -> Result<String,
     }
 }
 
-fn number(text: &str) -> u32 {
-    let mut value = 0;
-    for byte in text.as_bytes() {
-        value = value * 10 + (*byte - b'0') as u32;
-    }
-    value
-}
-
-fn digit(byte: u8) -> u8 {
-    if byte < b'a' { byte - b'0' } else { byte - b'a' + 10 }
-}
-
 fn asked(alloc: Global, limit: &str, flag: &str, text: &str) -> io::Result<Asked> {
-    let mut bytes = Vec::new(alloc);
-    let digits = text.as_bytes();
-    for i in 0..digits.len() / 2 {
-        bytes.push(digit(digits[2 * i]) * 16 + digit(digits[2 * i + 1]))?;
-    }
     Ok(Asked {
         limit: number(limit),
         conversion: flag == "1",
-        bytes,
+        bytes: bytes(alloc, text)?,
     })
 }
 
@@ -112,7 +91,7 @@ fn main(rt: HostRuntime) -> io::Result<()> {
 # ---- the program
 def rows():
     """The types that have a row, as the parser's impls tell them."""
-    folder = os.path.join(ROOT, "crates", "demangle_parse", "src")
+    folder = os.path.join(runs.ROOT, "crates", "demangle_parse", "src")
     texts = [open(os.path.join(folder, file)).read() for file in sorted(os.listdir(folder))]
     return [name for text in texts for name in IMPLS.findall(text)]
 
@@ -120,41 +99,14 @@ def rows():
 def program(names):
     text = PROGRAM.replace("ENTRIES", ", ".join(sorted(name for name in names if name not in syntax.WORDS)))
     text = text.replace("VOCAB", ", ".join(sorted(name for name in names if name in syntax.WORDS)))
-    return text.replace("ARMS", "\n".join(f'        "{name}" => read::<{name}>(alloc, asked),' for name in names))
-
-
-def made(folder, names):
-    """The program's crate, beside copies of the crates that it stands on."""
-    crate = os.path.join(folder, "crates", "row_answers")
-    os.makedirs(os.path.join(crate, "src"))
-    with open(os.path.join(crate, "src", "main.rt"), "w") as file:
-        file.write(program(names))
-    with open(os.path.join(ROOT, "crates.txt")) as file:
-        listed = dict(line.split(":") for line in file.read().splitlines() if ":" in line and line[0] != "#")
-    below = listed["demangle_parse"].split() + ["demangle_parse"]
-    with open(os.path.join(folder, "crates.txt"), "w") as file:
-        file.writelines(f"{name}:{listed[name]}\n" for name in below)
-        file.write(f"row_answers: {' '.join(below)}\n")
-    for name in below:
-        shutil.copytree(os.path.join(ROOT, "crates", name), os.path.join(folder, "crates", name),
-                        ignore=shutil.ignore_patterns("out", "must-fail"))
-    return crate
+    arms = "\n".join(f'        "{name}" => read::<{name}>(alloc, asked),' for name in names)
+    return text.replace("ARMS", arms) + runs.PARTS
 
 
 def ask(questions, names):
     """The program's answers to (row, limit, conversion, bytes), a line each."""
-    with tempfile.TemporaryDirectory() as folder:
-        crate, inputs = made(folder, names), os.path.join(folder, "inputs")
-        os.mkdir(inputs)
-        for first in range(0, len(questions), AT_ONCE):
-            with open(os.path.join(inputs, f"{first:08}"), "w") as file:
-                file.writelines(f"{row} {limit} {int(conversion)} {data.hex()}\n"
-                                for row, limit, conversion, data in questions[first:first + AT_ONCE])
-        done = subprocess.run(["rt", "try", "--cases", inputs], cwd=crate, capture_output=True, text=True)
-    found = re.findall(r"^\d+ [01]\t.*$|^no such row$", done.stdout, re.M)
-    if len(found) != len(questions):
-        sys.exit(done.stdout[-2000:] + done.stderr[-2000:])
-    return found
+    lines = [f"{row} {limit} {int(conversion)} {data.hex()}" for row, limit, conversion, data in questions]
+    return runs.answers("row_answers", program(names), ["demangle_parse"], lines, r"^\d+ [01]\t.*$|^no such row$")
 
 
 # ---- a text of `{:?}` as a value, in the form of syntax.parsed
