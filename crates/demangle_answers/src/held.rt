@@ -64,7 +64,7 @@ pub fn kept<H: Discard, X>(
 }
 
 /// The position of a new component. `OutOfMemory` where it was handed back: it is dropped, and the table is cut back.
-pub fn inserted<X: Drop>(
+pub fn inserted<X: Discard>(
     subs: &mut SubstitutionTable,
     mark: (usize, usize),
     answer: std::result::Result<usize, X>,
@@ -73,7 +73,8 @@ pub fn inserted<X: Drop>(
 {
     match answer {
         Ok(index) => Ok(index),
-        Err(_) => {
+        Err(component) => {
+            component.discard();
             subs.cut_back(mark);
             Err(Error::OutOfMemory)
         }
