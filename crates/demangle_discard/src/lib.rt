@@ -1,5 +1,6 @@
-//! What a reader or a copy lets go. Each node type stands here by name, so that its drop is proved in this crate, and
-//! not again in every crate whose functions let one go, as the bound `Drop` would ask for.
+//! What a reader lets go. Each node type that one does stands here by name, so that its drop is proved in this crate, and
+//! not again in every crate whose functions let one go, as the bound `Drop` would ask for. It is let go by a call: at
+//! the end of a function a node's drop would be written out, with all variants of the nodes inside of it.
 #![tactic(auto)]
 
 use demangle_entries::{
@@ -52,63 +53,93 @@ impl<X: Discard> Discard for Vec<X> {
 }
 
 impl Discard for AbiTags {
-    fn discard(self) {}
+    fn discard(self) {
+        drop(self);
+    }
 }
 
 impl Discard for BareFunctionType {
-    fn discard(self) {}
+    fn discard(self) {
+        drop(self);
+    }
 }
 
 impl Discard for CloneSuffix {
-    fn discard(self) {}
+    fn discard(self) {
+        drop(self);
+    }
 }
 
 impl Discard for ClosureTypeName {
-    fn discard(self) {}
+    fn discard(self) {
+        drop(self);
+    }
 }
 
 impl Discard for Encoding {
-    fn discard(self) {}
+    fn discard(self) {
+        drop(self);
+    }
 }
 
 impl Discard for ExceptionSpec {
-    fn discard(self) {}
+    fn discard(self) {
+        drop(self);
+    }
 }
 
 impl Discard for Expression {
-    fn discard(self) {}
+    fn discard(self) {
+        drop(self);
+    }
 }
 
 impl Discard for LambdaSig {
-    fn discard(self) {}
+    fn discard(self) {
+        drop(self);
+    }
 }
 
 impl Discard for MangledName {
-    fn discard(self) {}
+    fn discard(self) {
+        drop(self);
+    }
 }
 
 impl Discard for Name {
-    fn discard(self) {}
+    fn discard(self) {
+        drop(self);
+    }
 }
 
 impl Discard for ResourceName {
-    fn discard(self) {}
+    fn discard(self) {
+        drop(self);
+    }
 }
 
 impl Discard for SpecialName {
-    fn discard(self) {}
+    fn discard(self) {
+        drop(self);
+    }
 }
 
 impl Discard for Substitutable {
-    fn discard(self) {}
+    fn discard(self) {
+        drop(self);
+    }
 }
 
 impl Discard for TemplateArg {
-    fn discard(self) {}
+    fn discard(self) {
+        drop(self);
+    }
 }
 
 impl Discard for TemplateArgs {
-    fn discard(self) {}
+    fn discard(self) {
+        drop(self);
+    }
 }
 
 impl Discard for TypeHandle {
@@ -116,9 +147,13 @@ impl Discard for TypeHandle {
 }
 
 impl Discard for UnqualifiedName {
-    fn discard(self) {}
+    fn discard(self) {
+        drop(self);
+    }
 }
 
 impl Discard for UnresolvedQualifierLevel {
-    fn discard(self) {}
+    fn discard(self) {
+        drop(self);
+    }
 }
