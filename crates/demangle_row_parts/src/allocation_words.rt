@@ -11,7 +11,7 @@ ghost use Rattle.demangle_row_parts.specs.ExpressionWords.{tag_of_delete_form, t
 use demangle_entries::{Expression, Initializer, TypeHandle};
 
 /// Which expression of new: of one object or of an array, and whether `gs` stands before it.
-#[derive(Clone, Copy, Debug)]
+#[derive(Clone, Copy)]
 pub enum NewForm {
     /// `nw`
     Plain,
@@ -24,7 +24,7 @@ pub enum NewForm {
 }
 
 /// Which expression of delete: of one object or of an array, and whether `gs` stands before it.
-#[derive(Clone, Copy, Debug)]
+#[derive(Clone, Copy)]
 pub enum DeleteForm {
     /// `dl`
     Plain,
@@ -37,7 +37,7 @@ pub enum DeleteForm {
 }
 
 /// The four forms that may stand at one place.
-#[derive(Clone, Copy, Debug)]
+#[derive(Clone, Copy)]
 pub struct AllocationForms {
     /// That of `nw`.
     pub new_object: NewForm,

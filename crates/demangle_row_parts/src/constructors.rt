@@ -12,7 +12,7 @@ use demangle_entries::{CtorDtorName, TypeHandle};
 use demangle_text::{Error, IndexStr, Result, consume};
 
 /// Which of the constructors, as the digit behind `C` or `CI` says.
-#[derive(Clone, Copy, Debug)]
+#[derive(Clone, Copy)]
 pub enum Constructor {
     /// `1`
     Complete,
@@ -62,7 +62,7 @@ pub fn constructor_word<'b>(input: IndexStr<'b>) -> Result<(Constructor, IndexSt
 }
 
 /// Which of the destructors, as its word says.
-#[derive(Clone, Copy, Debug)]
+#[derive(Clone, Copy)]
 pub enum Destructor {
     /// `D0`
     Deleting,

@@ -15,7 +15,7 @@ use demangle_entries::{Expression, MemberName, TypeHandle};
 use demangle_text::{IndexStr, Result, consume, parse_number};
 
 /// A word before an expression, which makes another of it.
-#[derive(Clone, Copy, Debug)]
+#[derive(Clone, Copy)]
 pub enum UnaryWord {
     /// `pp_`
     PrefixInc,
@@ -36,7 +36,7 @@ pub enum UnaryWord {
 }
 
 /// A word before a type, which makes an expression of it.
-#[derive(Clone, Copy, Debug)]
+#[derive(Clone, Copy)]
 pub enum TypeWord {
     /// `ti`
     Typeid,
@@ -47,7 +47,7 @@ pub enum TypeWord {
 }
 
 /// A word before a type and an expression.
-#[derive(Clone, Copy, Debug)]
+#[derive(Clone, Copy)]
 pub enum CastWord {
     /// `dc`
     Dynamic,
@@ -60,7 +60,7 @@ pub enum CastWord {
 }
 
 /// A word of calls, conversions and lists in braces.
-#[derive(Clone, Copy, Debug)]
+#[derive(Clone, Copy)]
 pub enum CallWord {
     /// `cl`
     Call,
@@ -73,7 +73,7 @@ pub enum CallWord {
 }
 
 /// A word before an object and the name of its member.
-#[derive(Clone, Copy, Debug)]
+#[derive(Clone, Copy)]
 pub enum AccessWord {
     /// `dt`
     Member,
@@ -82,7 +82,7 @@ pub enum AccessWord {
 }
 
 /// A word of parts of objects, of members and of packs, and the one that stands alone.
-#[derive(Clone, Copy, Debug)]
+#[derive(Clone, Copy)]
 pub enum MemberWord {
     /// `so`
     Subobject,
@@ -99,7 +99,7 @@ pub enum MemberWord {
 }
 
 /// A word that tells which expression stands behind it.
-#[derive(Clone, Copy, Debug)]
+#[derive(Clone, Copy)]
 pub enum ExpressionWord {
     /// An expression stands behind it.
     OfExpression(UnaryWord),

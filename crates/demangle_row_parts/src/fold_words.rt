@@ -19,7 +19,7 @@ use demangle_text::{Error, IndexStr, Result, consume};
 use demangle_vocab::SimpleOperatorName;
 
 /// A fold with one operand, by the side on which its dots stand.
-#[derive(Clone, Copy, Debug)]
+#[derive(Clone, Copy)]
 pub enum OneSided {
     /// `fl`
     Left,
@@ -28,7 +28,7 @@ pub enum OneSided {
 }
 
 /// A fold with two operands, by the side on which its pack is folded.
-#[derive(Clone, Copy, Debug)]
+#[derive(Clone, Copy)]
 pub enum TwoSided {
     /// `fL`
     Left,
@@ -37,7 +37,7 @@ pub enum TwoSided {
 }
 
 /// Which fold it is.
-#[derive(Clone, Copy, Debug)]
+#[derive(Clone, Copy)]
 pub enum FoldWord {
     /// One operand stands behind the operator.
     Unary(OneSided),

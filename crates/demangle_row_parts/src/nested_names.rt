@@ -27,7 +27,7 @@ use demangle_vocab::{ExplicitObjectParameter, RefQualifier};
 use std::alloc::Global;
 
 /// What stands before the prefix of a nested name, ABI section 5.1.2, <nested-name>.
-#[derive(Clone, Copy, Debug)]
+#[derive(Clone, Copy)]
 pub enum NestedQualifiers {
     /// The mark of an explicit object parameter: `H`.
     ExplicitObject(ExplicitObjectParameter),

@@ -13,7 +13,7 @@ use demangle_leaf_nodes::PrefixHandle;
 use demangle_text::{Error, IndexStr};
 
 /// What a turn of a prefix begins with.
-#[derive(Clone, Copy, Debug)]
+#[derive(Clone, Copy)]
 pub enum Turn {
     /// A substitution, which replaces the prefix so far: `S`.
     Substitution,

@@ -13,7 +13,7 @@ use demangle_entries::{TypeHandle, TypeNode};
 use demangle_text::{IndexStr, Result, consume};
 
 /// A word that stands before a type and makes another of it.
-#[derive(Clone, Copy, Debug)]
+#[derive(Clone, Copy)]
 pub enum TypeMark {
     /// `P`
     PointerTo,
