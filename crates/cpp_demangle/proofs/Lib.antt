@@ -1,1 +1,3 @@
-pub mod CallLaws
+pub mod Causes
+pub mod Told
+pub mod Outcomes

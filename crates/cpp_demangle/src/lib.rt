@@ -1,12 +1,13 @@
 //! A demangler of C++ linker names (Itanium ABI).
 #![tactic(auto)]
 
-mod call;
+mod demangle;
 pub mod error;
-mod symbol;
+mod reading;
+mod telling;
 #[cfg(test)]
 mod tests;
 
-pub use demangle_context::{DemangleNodeType, DemangleOptions, DemangleWrite, TextSink};
+pub use demangle::{SymbolFault, demangle_symbol};
+pub use demangle_scope::{DemangleNodeType, DemangleOptions, DemangleWrite, TextSink};
 pub use demangle_text::ParseOptions;
-pub use symbol::{SymbolFault, demangle_symbol};

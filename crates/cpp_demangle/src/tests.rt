@@ -1,11 +1,12 @@
-//! Names and their texts from outside, and that each call is met by some input.
+//! What no clause says: names as compilers write them and their texts, and that memory is there.
 
+use crate::error::{DemangleError, Error};
 use crate::{DemangleOptions, ParseOptions, SymbolFault, demangle_symbol};
 use std::alloc::Global;
+use std::test::Fail;
 
-/// Plain functions' names, and their texts: each builtin type of one letter, in the ABI's order (section 5.1.5.2), and
-/// names of several.
-const TEXTS: [(&[u8], &str); 33] = [
+/// Functions with one builtin type, each of one letter, in the ABI's order (section 5.1.5.2).
+const BUILTINS: [(&[u8], &str); 21] = [
     (b"_Z1fv", "f()"),
     (b"_Z1fw", "f(wchar_t)"),
     (b"_Z1fb", "f(bool)"),
@@ -27,72 +28,134 @@ const TEXTS: [(&[u8], &str); 33] = [
     (b"_Z1fe", "f(long double)"),
     (b"_Z1fg", "f(__float128)"),
     (b"_Z1fz", "f(...)"),
+];
+
+/// Names of all kinds.
+const TEXTS: [(&[u8], &str); 48] = [
+    (b"_ZN5space3fooEibc", "space::foo(int, bool, char)"),
+    (b"_ZN5space3fooEii", "space::foo(int, int)"),
+    (
+        b"__Z28JS_GetPropertyDescriptorByIdP9JSContextN2JS6HandleIP8JSObjectEENS2_I4jsidEENS1_13MutableHandleINS1_18\
+          PropertyDescriptorEEE",
+        "JS_GetPropertyDescriptorById(JSContext*, JS::Handle<JSObject*>, JS::Handle<jsid>, \
+         JS::MutableHandle<JS::PropertyDescriptor>)",
+    ),
+    (b"_Z1fP1aS_", "f(a*, a)"),
+    (b"_Z1fP1aS0_", "f(a*, a*)"),
+    (
+        b"_ZNSt6vectorIiSaIiEE9push_backERKi",
+        "std::vector<int, std::allocator<int> >::push_back(int const&)",
+    ),
+    (b"_Z1fIiEvT_", "void f<int>(int)"),
+    (b"_Z1fIR1aEvOT_", "void f<a&>(a&)"),
+    (b"_Z1fPFPFivEvE", "f(int (*(*)())())"),
+    (b"PFivE", "int (*)()"),
+    (b"_Z1fRA10_i", "f(int (&) [10])"),
+    (b"_Z1fM1aFivE", "f(int (a::*)())"),
+    (b"_Z1fN1a1bEPNS0_1dE", "f(a::b, a::b::d*)"),
+    (b"_Z1fIN1a1bEEvRKNT_1cE", "void f<a::b>(a::b::c const&)"),
+    (b"_Z1fM1aKFvN1b1cEE", "f(void (a::*)(b::c) const)"),
+    (
+        b"_ZZ1fvENKUlvE_clEv",
+        "f()::{lambda()#1}::operator()() const",
+    ),
+    (b"_ZN3foo3barS_E", "foo"),
+    (b"_ZN3fooME", "foo"),
+    (b"_Z1f", "f"),
+    (b"i", "int"),
+    (b"_Z1fILin5EEvv", "void f<-5>()"),
+    (b"_Z1fILm5EEvv", "void f<(unsigned long)5>()"),
+    (b"_ZN3FooC1IiEEi", "Foo::Foo<int>()"),
+    (b"_ZTV1a", "{vtable(a)}"),
+    (b"_Z1fv.clone.0", "f() [clone .clone.0]"),
+    (b"_GLOBAL__I_1f", "global constructors keyed to f"),
+    (b"_ZN1acvT_IiEEv", "a::operator int<int>()"),
+    (
+        b"_Z1fIiEDTplfp_Li1EET_",
+        "decltype ({parm#1}+(1)) f<int>(int)",
+    ),
+    (b"_ZN12_GLOBAL__N_11fEv", "(anonymous namespace)::f()"),
+    (b"_ZNH1a1fES_i", "a::f(this a, int)"),
+    (
+        b"____Z1fv_block_invoke_2",
+        "invocation function for block in f()",
+    ),
+    (b"_ZGr8_a$Sb$_c", "java resource a/b.c"),
     (b"_Z3fooib", "foo(int, bool)"),
     (b"_Z1fvv", "f(void, void)"),
-    (b"_Z1fvi", "f(void, int)"),
     (b"_Z3i_bib", "i_b(int, bool)"),
     (b"_Z10abcdefghijdz", "abcdefghij(double, ...)"),
     (b"_Z4$a.9c", "$a.9(char)"),
     (b"_Z7_GLOBALv", "_GLOBAL()"),
-    (b"_Z9a_GLOBAL_v", "a_GLOBAL_()"),
-    (b"_Z6printfcz", "printf(char, ...)"),
+    (b"_Z6printfPKcz", "printf(char const*, ...)"),
     (b"_Z2\xc3\xa9v", "é()"),
     (b"_Z5a\xe2\x82\xac.i", "a€.(int)"),
     (b"_Z4\xf0\x9f\xa6\x80v", "🦀()"),
+    (b"__Z1fv", "f()"),
+    (b"_Z1fDd", "f(decimal64)"),
+    (b"_ZN1aD0Ev", "a::~a()"),
+    (b"_ZStplIcE", "std::operator+<char>"),
+    (b"_ZNKSs4sizeEv", "std::string::size() const"),
+    (
+        b"_ZNSt3mapI1a1bSt4lessIS0_ESaISt4pairIKS0_S1_EEEixERS5_",
+        "std::map<a, b, std::less<a>, std::allocator<std::pair<a const, b> > >::operator[](a const&)",
+    ),
 ];
 
-/// Bytes that are no plain function's name.
-const OTHERS: [&[u8]; 36] = [
-    b"",
-    b"_",
-    b"_Z",
-    b"foo",
-    b"Z3foov",
-    b"__Z1fv",
-    b"_z1fv",
-    b" _Z1fv",
-    b"_Z1fv ",
-    b"_Z1fv\n",
-    b"_Z3foo",
-    b"_Z4foov",
-    b"_Z03foov",
-    b"_Z0v",
-    b"_Zn1fv",
-    b"_Z_1fv",
-    b"_Zv",
-    b"_Z1",
-    b"_Z8_GLOBAL_v",
-    b"_Z12_GLOBAL__N_1v",
-    b"_Z1fDd",
-    b"_Z1fiDd",
-    b"_Z1fPi",
-    b"_Z1fiP",
-    b"_Z1fvx.",
-    b"_Z1f1g",
-    b"_Z3123i",
-    b"_Z2f-v",
-    b"_Z1\xc3v",
-    b"_Z2\xc0\xafv",
-    b"_Z3\xed\xa0\x80v",
-    b"_Z4\xf4\x90\x80\x80v",
-    b"_Z1\xff",
-    b"_Z2f\0v",
-    b"_Z99999999999999999999fv",
-    b"_ZN1a1bEv",
+/// Bytes that are no name, by why they aren't.
+const UNREAD: [(&[u8], Error); 14] = [
+    (b"", Error::UnexpectedEnd),
+    (b"_Z", Error::UnexpectedEnd),
+    (b"Q", Error::UnexpectedEnd),
+    (b"_Z3foo\xc3", Error::UnexpectedText),
+    (b"QQ", Error::UnexpectedText),
+    (b"_Z1fP1aS1_", Error::UnexpectedText),
+    (b"_Z1fv ", Error::UnexpectedText),
+    (b" _Z1fv", Error::UnexpectedText),
+    (b"_Z03foov", Error::UnexpectedText),
+    (b"_Z3123i", Error::UnexpectedText),
+    (b"_Z2\xc0\xafv", Error::UnexpectedText),
+    (b"_Z99999999999999999999f", Error::UnexpectedText),
+    (b"_ZTC1a99999999999999999999_1b", Error::Overflow),
+    (
+        b"_ZN5space3fooEibc and some trailing junk",
+        Error::UnexpectedText,
+    ),
+];
+
+/// Names whose trees can't be printed, by why they can't.
+const UNPRINTED: [(&[u8], DemangleError); 4] = [
+    (
+        b"_ZC1v",
+        DemangleError::Reference(Error::BadLeafNameReference),
+    ),
+    (
+        b"_Z1fT_",
+        DemangleError::Reference(Error::BadTemplateArgReference),
+    ),
+    (
+        b"_Z1fIT_Evv",
+        DemangleError::Reference(Error::ForwardTemplateArgReference),
+    ),
+    (b"_Z1fILi\xffEEvv", DemangleError::NotUtf8),
 ];
 
 /// What a name becomes under the options by default.
 fn demangled(alloc: Global, name: &[u8]) -> Result<String, SymbolFault> {
-    demangle_symbol(
-        alloc,
-        name,
-        &ParseOptions::default(),
-        &DemangleOptions::default(),
-    )
+    let parse = ParseOptions::default();
+    demangle_symbol(alloc, name, &parse, &DemangleOptions::default())
 }
 
 #[test]
 fn names_have_their_texts(rt: HostRuntime) {
+    for (name, text) in BUILTINS {
+        let answer = demangled(rt.alloc(), name);
+        assert_eq!(rt;
+            answer.as_ref().map(|text| text.as_str()),
+            Ok(text),
+            "at {name:?}"
+        );
+    }
     for (name, text) in TEXTS {
         let answer = demangled(rt.alloc(), name);
         assert_eq!(rt;
@@ -104,41 +167,90 @@ fn names_have_their_texts(rt: HostRuntime) {
 }
 
 #[test]
-fn other_bytes_are_not_built(rt: HostRuntime) {
-    for name in OTHERS {
+fn other_bytes_are_refused_by_their_cause(rt: HostRuntime) {
+    for (name, error) in UNREAD {
+        let fault = demangled(rt.alloc(), name).err();
+        assert_eq!(rt; fault, Some(SymbolFault::Read(error)), "at {name:?}");
+    }
+    for (name, error) in UNPRINTED {
+        let fault = demangled(rt.alloc(), name).err();
+        assert_eq!(rt; fault, Some(SymbolFault::Print(error)), "at {name:?}");
+    }
+}
+
+#[test]
+fn a_limit_is_met_where_it_is_reached(rt: HostRuntime) {
+    let deep = Some(SymbolFault::Read(Error::TooMuchRecursion));
+    for (name, limit, fault) in [
+        (b"i".as_slice(), 4, deep),
+        (b"i".as_slice(), 5, None),
+        (b"Pi".as_slice(), 9, deep),
+        (b"Pi".as_slice(), 10, None),
+        (b"_Z1fv".as_slice(), 11, deep),
+        (b"_Z1fv".as_slice(), 12, None),
+    ] {
+        let parse = ParseOptions::default().recursion_limit(limit);
+        let answer = demangle_symbol(rt.alloc(), name, &parse, &DemangleOptions::default());
+        assert_eq!(rt; answer.err(), fault, "at {name:?} with {limit}");
+    }
+    let parse = ParseOptions::default();
+    let print = DemangleOptions::default();
+    let too_deep = Some(SymbolFault::Print(DemangleError::TooMuchRecursion));
+    for (limit, fault) in [(3, too_deep), (4, None)] {
+        let answer = demangle_symbol(rt.alloc(), b"i", &parse, &print.recursion_limit(limit));
+        assert_eq!(rt; answer.err(), fault, "with {limit}");
+    }
+    let too_long = Some(SymbolFault::Print(DemangleError::TooLong));
+    for (bytes, fault) in [(2, too_long), (3, None)] {
+        let answer = demangle_symbol(rt.alloc(), b"_Z1fv", &parse, &print.output_limit(bytes));
+        assert_eq!(rt; answer.err(), fault, "with {bytes}");
+    }
+}
+
+#[test]
+fn options_leave_out_what_they_say(rt: HostRuntime) {
+    let print = DemangleOptions::new();
+    for (name, options, text) in [
+        (b"_Z1fIiEvT_".as_slice(), print.no_params(), "void f<int>"),
+        (
+            b"_Z1fIiEvT_".as_slice(),
+            print.no_return_type(),
+            "f<int>(int)",
+        ),
+        (
+            b"_Z1fILm5EEvv".as_slice(),
+            print.hide_expression_literal_types(),
+            "void f<5>()",
+        ),
+        (b"_Z1fv.clone.0".as_slice(), print.no_params(), "f"),
+    ] {
+        let answer = demangle_symbol(rt.alloc(), name, &ParseOptions::default(), &options);
         assert_eq!(rt;
-            demangled(rt.alloc(), name).err(),
-            Some(SymbolFault::NotBuilt),
+            answer.as_ref().map(|text| text.as_str()),
+            Ok(text),
             "at {name:?}"
         );
     }
 }
 
 #[test]
-fn another_limit_is_not_built(rt: HostRuntime) {
-    let print = DemangleOptions::default();
-    assert_eq!(rt; print.limit(), 128);
-    for (limit, text) in [(96, Some("f()")), (95, None), (97, None), (1024, None)] {
-        let parse = ParseOptions::default().recursion_limit(limit);
-        let answer = demangle_symbol(rt.alloc(), b"_Z1fv", &parse, &print);
-        assert_eq!(rt;
-            answer.as_ref().ok().map(|text| text.as_str()),
-            text,
-            "at {limit}"
-        );
-    }
-}
-
-#[test]
-fn another_option_is_not_built(rt: HostRuntime) {
-    let parse = ParseOptions::default();
-    for (print, text) in [
-        (DemangleOptions::new(), Some("f()")),
-        (DemangleOptions::new().no_params(), None),
-        (DemangleOptions::new().output_limit(3), None),
+fn faults_are_shown_as_they_say(rt: HostRuntime) -> Result<(), Fail> {
+    for fault in [
+        SymbolFault::Read(Error::UnexpectedText),
+        SymbolFault::Print(DemangleError::NotUtf8),
+        SymbolFault::Print(DemangleError::Reference(Error::BadLeafNameReference)),
+        SymbolFault::OutOfMemory,
     ] {
-        let answer = demangle_symbol(rt.alloc(), b"_Z1fv", &parse, &print);
-        assert_eq!(rt; answer.as_ref().ok().map(|text| text.as_str()), text);
+        let shown = format!(in rt.alloc(); "{fault}")?;
+        assert_eq!(rt; shown.as_str(), fault.text());
     }
-    assert_ne!(rt; SymbolFault::NotBuilt, SymbolFault::OutOfMemory);
+    for (name, error) in UNREAD {
+        let answer = demangled(rt.alloc(), name);
+        assert_eq!(rt; answer.err().map(|fault| fault.text()), Some(error.text()));
+    }
+    for (name, error) in UNPRINTED {
+        let answer = demangled(rt.alloc(), name);
+        assert_eq!(rt; answer.err().map(|fault| fault.text()), Some(error.text()));
+    }
+    Ok(())
 }

@@ -1,4 +1,4 @@
-//! The program `cppfilt`: it writes its input again, each line that is the name of a function as its text.
+//! The program `cppfilt`: it writes its input again, each line that is a linker name as its text.
 #![tactic(auto)]
 
 use cppfilt_run::program::{Ended, start};

@@ -1,8 +1,8 @@
 pub mod ChunkLaws
-pub mod FilterLaws
-pub mod MoveLaws
+pub mod NameLaws
 pub mod OwedLaws
-pub mod ReadLaws
+pub mod RanLaws
 pub mod ReportLaws
 pub mod RunLaws
+pub mod SampleLaws
 pub mod ShownLaws

@@ -1,124 +1,162 @@
--- Laws on what is owed behind a line that isn't complete.
-use Rattle.std.proofs.Common.{◌≡◌, ℕ, ◌+◌, ◌<◌, ◌≤◌, Bool, true, false, cond, eqb, not, List, [], ◌∷◌, ◌++◌, length}
-use Rattle.std.proofs.Common.{take, drop, refl, sym, ap, ◌∙◌, append_assoc, append-nil, arith, rules, tests}
-use Rattle.std.proofs.Common.{length-append, take-append-drop}
+-- Laws on what is owed behind a line that isn't complete, and on what a sink was given of it, whatever comes behind.
+use Rattle.std.proofs.Common.{◌≡◌, ℕ, ◌+◌, ◌<◌, ◌≤◌, false, eqb, not, List, [], ◌∷◌, ◌++◌, length, take, drop, refl}
+use Rattle.std.proofs.Common.{sym, ap}
+use Rattle.std.proofs.Common.{◌∙◌, append_assoc, append-nil, arith, rules, tests, length-append, take-append-drop}
+use Rattle.std.proofs.Common.{Result}
+use Rattle.std.specs.Prelude.{Option}
 use Rattle.std.proofs.lemmas.List.Folds.{prefix_len-append}
-use Rattle.std.proofs.lemmas.List.Sums.{prefix_len-le-length}
-use Rattle.std.proofs.lemmas.Bool.{true≢false, false≢true}
 use Rattle.std.proofs.Math.Seq.{take-append_seam, drop-append_seam}
-use Rattle.demangle_grammar.specs.Lines.{before_feed, due, shown_line, line_limit}
-use Rattle.demangle_grammar.proofs.LineLaws.{first-ended, due-held, due-last, long-line, before_feed-append}
-use Rattle.demangle_grammar.proofs.LineLaws.{unfinished-goes_on, unfinished-closes}
-use Rattle.cppfilt_run.specs.Owed.{passed, owed, completed, Kept}
-
-passed-at : (b : ℕ) (bs : List ℕ) → passed (b ∷ bs) ≡ b ∷ cond (eqb b 10) (due bs) (passed bs)
-unfolding passed
-passed-at b bs = refl
-
-pub passed-nil : passed [] ≡ []
-unfolding passed
-passed-nil = refl
-
--- a line's rest through its line feed
-abbrev Ends : List ℕ → Type 0
-Ends line = before_feed line + 1 ≡ length line → (more : List ℕ) → passed (line ++ more) ≡ line ++ due more
-
-ends-step : (b : ℕ) (bs : List ℕ) (t : Bool) → eqb b 10 ≡ t → Ends bs → Ends (b ∷ bs)
-ends-step b [] true e ih ended more = rw (passed-at b more, e) refl
-ends-step b (c ∷ cs) true e ih ended more = absurd (let f = rw e at ended in omega arith)
-ends-step b bs false e ih ended more =
-    let ended' : before_feed bs + 1 ≡ length bs = (let f = rw e at ended in omega arith) in
-    rw (passed-at b (bs ++ more), e, ih ended' more) refl
-
-pub passed-line : (line : List ℕ) → Ends line
-passed-line [] ended more = absurd (omega arith)
-passed-line (b ∷ bs) ended more = ends-step b bs (eqb b 10) refl (passed-line bs) ended more
-
--- bytes of a line before its line feed
-abbrev Goes : List ℕ → Type 0
-Goes front = before_feed front ≡ length front → (more : List ℕ) → passed (front ++ more) ≡ front ++ passed more
-
-goes-step : (b : ℕ) (bs : List ℕ) (t : Bool) → eqb b 10 ≡ t → Goes bs → Goes (b ∷ bs)
-goes-step b bs true e ih free more = absurd (let f = rw e at free in omega arith)
-goes-step b bs false e ih free more =
-    let free' : before_feed bs ≡ length bs = (let f = rw e at free in omega arith) in
-    rw (passed-at b (bs ++ more), e, ih free' more) refl
-
-pub passed-front : (front : List ℕ) → Goes front
-passed-front [] free more = refl
-passed-front (b ∷ bs) free more = goes-step b bs (eqb b 10) refl (passed-front bs) free more
+use Rattle.std.specs.Result.{IsErrAnd}
+use Rattle.demangle_context.specs.declared.error.SinkFault.{SinkFault}
+use Rattle.demangle_context.specs.declared.error.SinkFault.TheVariants as fault
+use Rattle.cppfilt_ends.specs.Moves.{Moves, Begins, Gives}
+use Rattle.cppfilt_ends.proofs.MoveLaws.{moves-more, begins, begins-more, begins-then, moves-then, flushed}
+use Rattle.cppfilt_ends.proofs.MoveLaws.{gives-more, refusal}
+use Rattle.cppfilt_lines.specs.Due.{due, shown_line}
+use Rattle.cppfilt_lines.specs.Lines.{before_feed, unfinished}
+use Rattle.cppfilt_lines.specs.declared.options.FilterOptions.{FilterOptions}
+use Rattle.cppfilt_lines.proofs.LineLaws.{first-ended, due-held, due-nil, before_feed-append}
+use Rattle.cppfilt_lines.proofs.LineLaws.{unfinished-goes_on, unfinished-closes}
+use Rattle.cppfilt_run.specs.Owed.{ahead}
 
 -- ---- a line that is complete
-before_feed-ended : (line more : List ℕ) → before_feed line + 1 ≡ length line → before_feed (line ++ more) ≡ before_feed line
+before_feed-ended : (line more : List ℕ) → before_feed line + 1 ≡ length line
+    → before_feed (line ++ more) ≡ before_feed line
 before_feed-ended line more ended =
     let e = prefix_len-append (λ b. not (eqb b 10)) line more in
     let other : eqb (before_feed line) (length line) ≡ false = search (rules, tests) in
     rw (e, other) refl
 
-due-completed : (held line more : List ℕ) → before_feed held ≡ length held → before_feed line + 1 ≡ length line → due (held ++ (line ++ more)) ≡ shown_line (held ++ line) ++ due more
-due-completed held line more free ended =
+due-completed : (o : FilterOptions) (held line more : List ℕ) → before_feed held ≡ length held
+    → before_feed line + 1 ≡ length line
+    → due o (held ++ (line ++ more)) ≡ shown_line o (held ++ line) ++ due o more
+due-completed o held line more free ended =
     let at = before_feed-ended line more ended in
     let seen : before_feed (line ++ more) < length (line ++ more) = rw (at, length-append) (omega arith) in
-    rw (due-held held (line ++ more) free seen, at, ended, take-append_seam, drop-append_seam) refl
+    rw (due-held o held (line ++ more) free seen, at, ended, take-append_seam, drop-append_seam) refl
 
-pub owed-completed : (passing : Bool) (held line more : List ℕ) → before_feed held ≡ length held → before_feed line + 1 ≡ length line
-    → owed passing held (line ++ more) ≡ completed passing held line ++ due more
-owed-completed true held line more free ended = passed-line line ended more
-owed-completed false held line more free ended = due-completed held line more free ended
+ahead-completed : (o : FilterOptions) (gathered held line more : List ℕ) → before_feed held ≡ length held
+    → before_feed line + 1 ≡ length line
+    → ahead o gathered held (line ++ more) ≡ (gathered ++ shown_line o (held ++ line)) ++ due o more
+ahead-completed o gathered held line more free ended =
+    ap (λ l. gathered ++ l) (due-completed o held line more free ended)
+    ∙ sym (append_assoc gathered (shown_line o (held ++ line)) (due o more))
 
--- ---- a line whose front is too long to be asked
-long-by : (front more : List ℕ) (t : Bool) → eqb (before_feed more) (length more) ≡ t → before_feed front ≡ length front → line_limit + 2 < length front → due (front ++ more) ≡ front ++ passed more
-long-by front more true e free long =
-    let none : before_feed more ≡ length more = search (rules, tests) in
-    let at = before_feed-append front more free in
-    let free' : before_feed (front ++ more) ≡ length (front ++ more) = rw (at, none, length-append) refl in
-    let rest = passed-front more none [] in
-    let some : 0 < length (front ++ more) = rw length-append (omega arith) in
-    let long' : line_limit + 2 < length (front ++ more) = rw length-append (omega arith) in
-    rw (due-last (front ++ more) free' some, long-line (front ++ more) long')
-    (ap (λ l. front ++ l) (sym (append-nil more) ∙ ap (λ l. more ++ l) (sym passed-nil) ∙ sym rest ∙ ap passed (append-nil more)))
-long-by front more false e free long =
-    let le = prefix_len-le-length (λ b. not (eqb b 10)) more in
-    let seen : before_feed more < length more = search (rules, tests, le) in
-    let first = take (before_feed more + 1) more in
-    let ended : before_feed first + 1 ≡ length first = first-ended more seen in
-    let long' : line_limit + 2 < length (front ++ first) = rw length-append (omega arith) in
-    rw (due-held front more free seen, long-line (front ++ first) long')
-    (append_assoc front first (due (drop (before_feed more + 1) more)) ∙ ap (λ l. front ++ l) (sym (passed-line first ended (drop (before_feed more + 1) more)) ∙ ap passed (take-append-drop (before_feed more + 1) more)))
+-- whatever its call answers
+pub gives-completed : {T : Type 0} (o : FilterOptions) (a b : Option (List ℕ)) (w0 w1 : ℕ) (r : Result T SinkFault)
+    (gathered after held line : List ℕ) → held ≡ [] → before_feed line + 1 ≡ length line
+    → Gives a b w0 w1 r (gathered ++ shown_line o line) after → (more : List ℕ)
+    → Gives a b w0 w1 r (ahead o gathered held (line ++ more)) (ahead o after held more)
+gives-completed o a b w0 w1 r gathered after held line none ended g more =
+    rw (none, ahead-completed o gathered [] line more refl ended)
+    (gives-more a b w0 w1 r (gathered ++ shown_line o line) after (due o more) g)
 
-pub owed-long : (held front more : List ℕ) → before_feed held ≡ length held → before_feed front ≡ length front → line_limit + 2 < length held + length front
-    → owed false held (front ++ more) ≡ (held ++ front) ++ passed more
-owed-long held front more free unended long =
-    let at = before_feed-append held front free in
-    let free' : before_feed (held ++ front) ≡ length (held ++ front) = rw (at, unended, length-append) refl in
-    let long' : line_limit + 2 < length (held ++ front) = rw length-append long in
-    sym (ap due (append_assoc held front more)) ∙ long-by (held ++ front) more (eqb (before_feed more) (length more)) refl free' long'
+pub moves-completed : (o : FilterOptions) (a b : Option (List ℕ)) (gathered after held line now : List ℕ)
+    → before_feed held ≡ length held → before_feed line + 1 ≡ length line
+    → Moves a b (gathered ++ shown_line o (held ++ line)) after → now ≡ [] → (more : List ℕ)
+    → Moves a b (ahead o gathered held (line ++ more)) (ahead o after now more)
+moves-completed o a b gathered after held line now free ended p none more =
+    rw (none, ahead-completed o gathered held line more free ended)
+    (moves-more a b (gathered ++ shown_line o (held ++ line)) after (due o more) p)
 
--- a line that is too long stays as it is
-pub completed-long : (passing : Bool) (held line : List ℕ) → passing ≡ false → line_limit + 2 < length held + length line → completed passing held line ≡ held ++ line
-completed-long true held line off long = absurd (true≢false off)
-completed-long false held line off long = long-line (held ++ line) (rw length-append long)
+pub begins-completed : (o : FilterOptions) (a b : Option (List ℕ)) (gathered held line : List ℕ)
+    → before_feed held ≡ length held → before_feed line + 1 ≡ length line
+    → Begins a b (gathered ++ shown_line o (held ++ line)) → (more : List ℕ)
+    → Begins a b (ahead o gathered held (line ++ more))
+begins-completed o a b gathered held line free ended p more =
+    rw (ahead-completed o gathered held line more free ended)
+    (begins-more a b (gathered ++ shown_line o (held ++ line)) (due o more) p)
+
+-- ---- the front of a line
+-- bytes without a line feed behind others without one
+pub free-append : (held front now : List ℕ) → before_feed held ≡ length held → before_feed front ≡ length front
+    → now ≡ held ++ front → before_feed now ≡ length now
+free-append held front now free unended is =
+    rw (is, before_feed-append held front free, unended, length-append) refl
+
+-- they are held
+pub moves-held : (o : FilterOptions) (a b : Option (List ℕ)) (first : List ℕ → List ℕ)
+    (gathered held front now : List ℕ)
+    → ((more : List ℕ) → Moves a b (first more) (ahead o gathered held (front ++ more)))
+    → now ≡ held ++ front → (more : List ℕ) → Moves a b (first more) (ahead o gathered now more)
+moves-held o a b first gathered held front now p is more = rw (is, append_assoc held front more) (p more)
+
+-- or there is no room for them
+pub begins-held : {T : Type 0} (o : FilterOptions) (a b : Option (List ℕ)) (w0 w1 : ℕ) (r : Result T SinkFault)
+    (first : List ℕ → List ℕ) (gathered held front after : List ℕ)
+    → ((more : List ℕ) → Moves a b (first more) (ahead o gathered held (front ++ more))) → w1 ≡ w0
+    → IsErrAnd r (λ e. e ≡ fault.OutOfMemory) → (more : List ℕ) → Gives a b w0 w1 r (first more) after
+begins-held o a b w0 w1 r first gathered held front after p same is more =
+    refusal a b w0 w1 r fault.OutOfMemory (first more) after is
+    (same, begins a b (first more) (ahead o gathered held (front ++ more)) (p more))
+
+pub free-nothing : (held : List ℕ) → held ≡ [] → before_feed held ≡ length held
+free-nothing held none = rw none refl
 
 -- ---- what is kept of the bytes that have come
 -- behind a line feed nothing is
-pub kept-closed : (held seen line : List ℕ) → before_feed line + 1 ≡ length line → held ≡ [] → Kept false held (seen ++ line)
-kept-closed held seen line ended none = (none ∙ sym (unfinished-closes seen line ended), rw none (omega arith))
+pub kept-closed : (seen front line now : List ℕ) → before_feed line + 1 ≡ length line → now ≡ []
+    → now ≡ unfinished (seen ++ (front ++ line))
+kept-closed seen front line now ended none =
+    none ∙ sym (unfinished-closes (seen ++ front) line ended) ∙ ap unfinished (append_assoc seen front line)
 
--- a line's front is passed on
-pub kept-passing : (passing : Bool) (held seen front : List ℕ) → passing ≡ true → before_feed front ≡ length front → Kept passing held seen → Kept passing held (seen ++ front)
-kept-passing true held seen front on unended k = rw (unfinished-goes_on seen front unended, length-append) (omega arith)
-kept-passing false held seen front on unended k = absurd (false≢true on)
+-- the front of a line is, behind what was kept
+pub kept-front : (held seen front rest now : List ℕ) → before_feed rest ≡ length rest → now ≡ held ++ rest
+    → held ≡ unfinished (seen ++ front) → now ≡ unfinished (seen ++ (front ++ rest))
+kept-front held seen front rest now free is kept =
+    is ∙ ap (λ l. l ++ rest) kept ∙ sym (unfinished-goes_on (seen ++ front) rest free)
+    ∙ ap unfinished (append_assoc seen front rest)
 
--- a line's front turns out too long
-pub kept-turned : (passing : Bool) (held after seen front : List ℕ) → passing ≡ false → before_feed front ≡ length front → line_limit + 2 < length held + length front → Kept passing held seen → Kept true after (seen ++ front)
-kept-turned true held after seen front off unended long k = absurd (true≢false off)
-kept-turned false held after seen front off unended long k = rw (unfinished-goes_on seen front unended, ← k.0, length-append) long
+-- ---- one line after another
+-- the first line of what is left, after those before it
+rest-apart : (rest line after more : List ℕ) → line ++ after ≡ rest → rest ++ more ≡ line ++ (after ++ more)
+rest-apart rest line after more e = sym (ap (λ l. l ++ more) e) ∙ append_assoc line after more
 
--- it may still be asked
-pub kept-held : (passing : Bool) (held seen front : List ℕ) → passing ≡ false → before_feed front ≡ length front → length held + length front ≤ line_limit + 2 → Kept passing held seen → Kept passing (held ++ front) (seen ++ front)
-kept-held true held seen front off unended within k = absurd (true≢false off)
-kept-held false held seen front off unended within k = (rw (unfinished-goes_on seen front unended, ← k.0) refl, rw length-append within)
+pub moves-line : (a b c : Option (List ℕ)) (first mid last : List ℕ → List ℕ) (rest line after : List ℕ)
+    → line ++ after ≡ rest → ((more : List ℕ) → Moves a b (first more) (mid (rest ++ more)))
+    → ((more : List ℕ) → Moves b c (mid (line ++ more)) (last more))
+    → (more : List ℕ) → Moves a c (first more) (last (after ++ more))
+moves-line a b c first mid last rest line after e p q more =
+    let before : Moves a b (first more) (mid (line ++ (after ++ more))) =
+    rw (← rest-apart rest line after more e) (p more) in
+    moves-then a b c (first more) (mid (line ++ (after ++ more))) (last (after ++ more)) before (q (after ++ more))
 
--- one piece after another
-pub kept-more : (passing : Bool) (held seen front line : List ℕ) → Kept passing held ((seen ++ front) ++ line) → Kept passing held (seen ++ (front ++ line))
-kept-more passing held seen front line k = rw (← append_assoc seen front line) k
+pub begins-line : (a b c : Option (List ℕ)) (first mid : List ℕ → List ℕ) (rest line after : List ℕ)
+    → line ++ after ≡ rest → ((more : List ℕ) → Moves a b (first more) (mid (rest ++ more)))
+    → ((more : List ℕ) → Begins b c (mid (line ++ more))) → (more : List ℕ) → Begins a c (first more)
+begins-line a b c first mid rest line after e p q more =
+    let before : Moves a b (first more) (mid (line ++ (after ++ more))) =
+    rw (← rest-apart rest line after more e) (p more) in
+    begins-then a b c (first more) (mid (line ++ (after ++ more))) before (q (after ++ more))
+
+-- a line as code finds it ends with its line feed
+pub line-ended : (rest line : List ℕ) (end : ℕ) → before_feed rest + 1 ≡ end → end ≤ length rest
+    → line ≡ take end rest → before_feed line + 1 ≡ length line
+line-ended rest line end at within cut = rw (cut, ← at) (first-ended rest (omega arith))
+
+pub cut-joins : (rest line after : List ℕ) (end : ℕ) → line ≡ take end rest → after ≡ drop end rest
+    → line ++ after ≡ rest
+cut-joins rest line after end p q = rw (p, q) (take-append-drop end rest)
+
+-- ---- what was gathered is written
+pub moves-flushed : (o : FilterOptions) (a b c : Option (List ℕ)) (first : List ℕ → List ℕ)
+    (gathered after held : List ℕ) → ((more : List ℕ) → Moves a b (first more) (ahead o gathered held more))
+    → Moves b c gathered [] → after ≡ [] → (more : List ℕ) → Moves a c (first more) (ahead o after held more)
+moves-flushed o a b c first gathered after held p q none more =
+    let behind = due o (held ++ more) in
+    rw none (moves-then a b c (first more) (gathered ++ behind) behind (p more) (flushed b c gathered behind q))
+
+pub begins-flushed : (o : FilterOptions) (a b c : Option (List ℕ)) (first : List ℕ → List ℕ)
+    (gathered held : List ℕ) → ((more : List ℕ) → Moves a b (first more) (ahead o gathered held more))
+    → Begins b c gathered → (more : List ℕ) → Begins a c (first more)
+begins-flushed o a b c first gathered held p q more =
+    let behind = due o (held ++ more) in
+    begins-then a b c (first more) (gathered ++ behind) (p more) (begins-more b c gathered behind q)
+
+-- ---- the end of the input
+pub nil-from_length : (l : List ℕ) → length l ≡ 0 → l ≡ []
+nil-from_length [] e = refl
+nil-from_length (b ∷ bs) e = absurd (omega arith)
+
+pub due-nothing : (o : FilterOptions) (gathered held : List ℕ) → held ≡ [] → gathered ++ due o held ≡ gathered
+due-nothing o gathered held none = rw (none, due-nil o, append-nil) refl

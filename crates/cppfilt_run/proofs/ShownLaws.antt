@@ -1,19 +1,93 @@
 -- Laws on what a line becomes, in the words of the code that cuts it.
-use Rattle.std.proofs.Common.{◌≡◌, ℕ, ◌-◌, ◌≤◌, List, ◌++◌, length, take, drop, sym, ap, ◌∙◌, arith}
+use Rattle.std.proofs.Common.{◌≡◌, ℕ, ◌-◌, ◌≤◌, Bool, false, List, [], ◌∷◌, ◌++◌, length, take, drop, refl, sym}
+use Rattle.std.proofs.Common.{ap}
+use Rattle.std.proofs.Common.{◌∙◌, append_assoc, arith, eqb, get_or, rules, tests, true, Ok, Err}
+use Rattle.std.specs.Prelude.{String, string_bytes}
 use Rattle.std.proofs.lemmas.List.{length-take-le}
 use Rattle.std.proofs.lemmas.Grind.{common_steps}
-use Rattle.demangle_grammar.specs.Lines.{body, ending, shown, shown_line}
-use Rattle.demangle_grammar.proofs.LineLaws.{body-ending}
+use Rattle.std.specs.declared.alloc.Global.{Global}
+use Rattle.demangle_text.specs.Kind.{Kind, Unread, Deep, Other, End, Text, Bad, Over}
+use Rattle.demangle_text.specs.Texts.{error_text}
+use Rattle.demangle_printing.specs.Outcome.{Outcome, Shown, NotRead, NotPrinted, outcome}
+use Rattle.demangle_context.specs.TroubleOf.{error_at}
+use Rattle.cpp_demangle.specs.Answer.{answer_of, IsAnswer, fault_text, read_error}
+use Rattle.cpp_demangle.specs.declared.demangle.SymbolFault.{SymbolFault}
+use Rattle.cpp_demangle.specs.declared.demangle.SymbolFault.TheVariants as fault
+use Rattle.cppfilt_lines.specs.Due.{shown_line}
+use Rattle.cppfilt_lines.specs.Lines.{body, ending}
+use Rattle.cppfilt_lines.specs.Shown.{answered, is_asked, is_named, reading_text, refused, shown}
+use Rattle.cppfilt_lines.specs.declared.options.FilterOptions.{FilterOptions}
+use Rattle.cppfilt_lines.proofs.LineLaws.{body-ending, shown-asked, shown-kept}
 
--- a line whose bytes stay
-pub shown_line-kept : (line : List ℕ) (n : ℕ) → body line ≡ take n line → shown (take n line) ≡ take n line → shown_line line ≡ line
-unfolding shown_line
-shown_line-kept line n e stays = ap (λ b. shown b ++ ending line) e ∙ ap (λ b. b ++ ending line) stays ∙ ap (λ b. b ++ ending line) (sym e) ∙ body-ending line
+-- no name begins with another byte than `_`
+pub unnamed : (b : List ℕ) → eqb (get_or b 0 0) 95 ≡ false → is_named b ≡ false
+unnamed [] other = refl
+unnamed (x ∷ xs) other = let e : eqb 95 x ≡ false = search (rules, tests) in rw e refl
 
--- a line whose bytes become a text
-pub shown_line-text : (line text : List ℕ) (n : ℕ) → body line ≡ take n line → n ≤ length line → shown (take n line) ≡ text → shown_line line ≡ text ++ take (length line - n) (drop n line)
+-- ---- a line
+-- its bytes are not asked
+pub shown_line-kept : (o : FilterOptions) (line : List ℕ) (n : ℕ) → body line ≡ take n line
+    → is_asked o (take n line) ≡ false → shown_line o line ≡ line
 unfolding shown_line
-shown_line-text line text n e within becomes =
+shown_line-kept o line n e unasked =
+    ap (λ b. shown o b ++ ending line) e ∙ ap (λ b. b ++ ending line) (shown-kept o (take n line) unasked)
+    ∙ ap (λ b. b ++ ending line) (sym e) ∙ body-ending line
+
+-- its bytes and its ending
+pub shown_line-parts : (o : FilterOptions) (line : List ℕ) (n : ℕ) → body line ≡ take n line → n ≤ length line
+    → shown_line o line ≡ shown o (take n line) ++ take (length line - n) (drop n line)
+unfolding shown_line
+shown_line-parts o line n e within =
     let end : length (body line) ≡ n = ap length e ∙ length-take-le n line within in
     let rest : take (length line - n) (drop n line) ≡ drop n line = grind (arith, common_steps) in
-    ap (λ b. shown b ++ ending line) e ∙ ap (λ b. b ++ ending line) becomes ∙ ap (λ k. text ++ drop k line) end ∙ ap (λ r. text ++ r) (sym rest)
+    ap (λ b. shown o b ++ ending line) e ∙ ap (λ k. shown o (take n line) ++ drop k line) end
+    ∙ ap (λ r. shown o (take n line) ++ r) (sym rest)
+
+-- ---- bytes with a cause
+pub refused-parts : (why : Bool) (b cause : List ℕ) → why ≡ true → refused why b cause ≡ (b ++ 9 ∷ []) ++ cause
+refused-parts true b cause on = sym (append_assoc b (9 ∷ []) cause)
+refused-parts false b cause on = absurd cc
+
+-- ---- an answer
+reading-says : (k : Kind) → reading_text k ≡ error_text (read_error k)
+reading-says (Unread End) = refl
+reading-says (Unread Text) = refl
+reading-says (Unread Bad) = refl
+reading-says (Unread Over) = refl
+reading-says Deep = refl
+reading-says Other = refl
+
+text-answered : (o : FilterOptions) (b text : List ℕ) (out : Outcome) → answer_of out ≡ Ok text
+    → answered o b out ≡ text
+text-answered o b text (Shown t) e = cc
+text-answered o b text (NotRead k) e = absurd cc
+text-answered o b text (NotPrinted f) e = absurd cc
+
+fault-answered : (o : FilterOptions) (b : List ℕ) (f : SymbolFault) (out : Outcome) → answer_of out ≡ Err f
+    → answered o b out ≡ refused o.why b (fault_text f)
+fault-answered o b f (Shown t) e = absurd cc
+fault-answered o b f (NotRead k) e =
+    let is : fault.Read (read_error k) ≡ f = cc in
+    ap (refused o.why b) (reading-says k ∙ ap fault_text is)
+fault-answered o b f (NotPrinted g) e =
+    let is : fault.Print (error_at g) ≡ f = cc in
+    ap (λ (x : SymbolFault). refused o.why b (fault_text x)) is
+
+-- bytes that are asked, by what the call answers
+pub shown-text : (o : FilterOptions) (b : List ℕ) (text : String Global) → is_asked o b ≡ true
+    → IsAnswer (answer_of (outcome o.parse o.print b)) (Ok text) → shown o b ≡ string_bytes text
+shown-text o b text asked is =
+    shown-asked o b asked ∙ text-answered o b (string_bytes text) (outcome o.parse o.print b) is
+
+is-fault : (out : Outcome) (f : SymbolFault) → (f ≡ fault.OutOfMemory → ⊥)
+    → IsAnswer (answer_of out) (Err f) → answer_of out ≡ Err f
+is-fault out (fault.Read e) other is = is
+is-fault out (fault.Print e) other is = is
+is-fault out fault.OutOfMemory other is = absurd (other refl)
+
+pub shown-fault : (o : FilterOptions) (b : List ℕ) (f : SymbolFault) → is_asked o b ≡ true
+    → (f ≡ fault.OutOfMemory → ⊥) → IsAnswer (answer_of (outcome o.parse o.print b)) (Err f)
+    → shown o b ≡ refused o.why b (fault_text f)
+shown-fault o b f asked other is =
+    shown-asked o b asked
+    ∙ fault-answered o b f (outcome o.parse o.print b) (is-fault (outcome o.parse o.print b) f other is)

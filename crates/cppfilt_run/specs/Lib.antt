@@ -1,7 +1,7 @@
-pub mod Causes
-pub mod Moves
+pub mod Counted
 pub mod Outcome
 pub mod Owed
-pub mod Shown
+pub mod Ran
+pub mod Refused
 pub mod Statuses
 pub mod StatusText

@@ -1,16 +1,19 @@
-//! The program `cppfilt` over the ends that it is handed: it writes its input again, each line that is the name of a
-//! function as its text.
+//! The program `cppfilt` over the ends that it is handed: it writes its input again, each line that is a linker name
+//! as its text.
 #![tactic(auto)]
 
-pub mod ends;
+mod cutting;
 pub mod filter;
 mod lines;
-pub mod memory;
-mod output;
+mod names;
 pub mod program;
 pub mod run;
-pub mod standard;
+mod sample;
+mod shown;
 pub mod status;
 #[cfg(test)]
 mod tests;
 pub mod words;
+
+pub use cppfilt_ends::{ends, faulty, memory, standard};
+pub use cppfilt_lines::FilterOptions;

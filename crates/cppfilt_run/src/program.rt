@@ -1,9 +1,9 @@
 //! The program with the words and the streams of a process.
 
-use crate::run::run;
-use crate::standard::{StdSink, StdSource};
+use crate::run::{refuse_words, report, run};
 use crate::status::Status;
-use crate::words::words;
+use crate::words::{NoWords, words};
+use cppfilt_ends::standard::{StdSink, StdSource};
 use std::env::Env;
 use std::io::{Eprint, Read, Write};
 use std::process::{ExitCode, Termination};
@@ -32,7 +32,8 @@ pub fn start<I: Read + Drop, O: Write + Drop, E: Write + Drop>(
     let mut errors = StdSink::new(errors);
     let status = match words(rt) {
         Ok(words) => run(rt.alloc(), words, &mut input, &mut output, &mut errors),
-        Err(_) => Status::OutOfMemory,
+        Err(NoWords::NoText) => refuse_words(&mut errors),
+        Err(NoWords::OutOfMemory) => report(Status::OutOfMemory, &mut errors),
     };
     Ended { status }
 }

@@ -1,31 +1,43 @@
 //! The program, over the ends that it is handed.
 
-ghost use Rattle.std.specs.Prelude.{◌≡◌, ◌≢◌, ◌⊎◌, ℕ, ◌+◌, ◌-◌, ◌^◌, ◌<◌, ◌≤◌, List, length, take, vec_len, IfSome};
+ghost use Rattle.std.specs.Prelude.{◌≡◌, ◌≢◌, ◌⊎◌, ◌+◌, ◌-◌, ◌^◌, ◌<◌, ◌≤◌, ◌∷◌, codes, false, true, length, map, take};
+ghost use Rattle.std.specs.Prelude.{IfOk, IfSome, string_bytes};
 ghost use Rattle.std.specs.Io.KnownBytes.{Appends, IsAtEnd};
-ghost use Rattle.demangle_grammar.specs.Lines.{due, due_so_far};
-ghost use Rattle.cppfilt_run.specs.Causes.{Rose, NoFault};
-ghost use Rattle.cppfilt_run.specs.Moves.{Begins};
+ghost use Rattle.std.specs.List.{All};
+ghost use Rattle.cppfilt_command.specs.Asked.{AsksHelp, Asks, Mistaken, judgement, verdict_on};
+ghost use Rattle.cppfilt_command.specs.Refusals.{work_of};
+ghost use Rattle.cppfilt_ends.specs.Causes.{Rose, NoFault};
+ghost use Rattle.cppfilt_ends.specs.Moves.{Begins};
+ghost use Rattle.cppfilt_lines.specs.Due.{due};
+ghost use Rattle.cppfilt_lines.specs.Lines.{complete};
+ghost use Rattle.cppfilt_lines.specs.Named.{IsNamedWhenShown};
+ghost use Rattle.cppfilt_lines.specs.Work.{Work, candidates, due_for, input_for, lines};
+ghost use Rattle.cppfilt_lines.specs.declared.options.FilterOptions.{FilterOptions};
 ghost use Rattle.cppfilt_run.specs.Outcome.{OfTaken, KeepsUp};
+ghost use Rattle.cppfilt_run.specs.Ran.{Ended, Helped, Performed, Unread, reads};
 ghost use Rattle.cppfilt_run.specs.StatusText.{message_of};
 
-use crate::ends::{Sink, Source};
-use crate::filter::filter_lines;
-use crate::output::write_all;
+use crate::filter::{filtered, status_of};
+use crate::names::show_names;
+use crate::sample::show_sample;
 use crate::status::Status;
-use cpp_demangle::error::SinkFault;
-use std::alloc::Global;
+use cppfilt_command::{Refusal, Request, Task, judge};
+use cppfilt_ends::ends::{Sink, Source};
+use cppfilt_ends::output::write_all;
+use demangle_context::SinkFault;
+use std::alloc::{AllocError, Global};
 
 /// How many bytes of input are taken at most: 2^40.
 const INPUT_LIMIT: u64 = 1 << 40;
 
-/// Writes the input again, each line that is the name of a function as its text, and tells faults on `errors`.
+/// The program. It does what the words ask for: it writes the lines of the input again, each that is asked and has a
+/// text as its text, or shows names, or demangles a sample of names, or gives help.
 ///
-/// `words` are the words after the program's name: none is taken yet. A line is cut after each line feed; one carriage
-/// return before it, or at the end of a last line without one, is set aside. What is complete is written before the next
-/// read; of a line that isn't complete nothing is, unless it has more bytes than a line that may be asked: then it is
-/// written as it comes. `Usage` comes exactly where a word is given, before any read or write; `ReadFault` and
-/// `WriteFault` where an end failed; `InputTooLong` where 2^40 bytes were taken and a further read gave bytes;
-/// `OutOfMemory` where memory is wanting.
+/// `words` are the words after the program's name; they are judged before anything is read or written. `Usage` comes
+/// exactly where they are wrong, with the cause on `errors`; `Help` where they ask for help, which goes to the output.
+/// Of the input, which is read for its lines alone, at most 2^40 bytes are taken. `ReadFault` and `WriteFault` come
+/// where an end failed; `InputTooLong` where that many bytes were taken and a further read gave bytes; `OutOfMemory`
+/// where memory is wanting.
 pub fn run<R: Source, W: Sink, E: Sink>(
     alloc: Global,
     words: Vec<String>,
@@ -33,36 +45,55 @@ pub fn run<R: Source, W: Sink, E: Sink>(
     output: &mut W,
     errors: &mut E,
 ) -> Status
-    // All of an input that is told was read, and all that is due for it was written.
-    ensures done { result ≡ Status.Done → IsAtEnd (R.left input.new)
-        × IfSome (R.left input.old) (λ bytes. Appends (W.written output.old) (W.written output.new) (due bytes)) }
+    // Where the words ask for work, all that is due for it was written,
+    ensures done { (o : FilterOptions) (work : Work) → verdict_on words.items ≡ Asks o work
+        → result ≡ Status.Done → IfSome (input_for work (R.left input.old))
+        (λ bytes. Appends (W.written output.old) (W.written output.new) (due_for o work bytes)) }
+    // and all of an input that is read for its lines was read.
+    ensures done_reads { (o : FilterOptions) → verdict_on words.items ≡ Asks o lines
+        → result ≡ Status.Done → IsAtEnd (R.left input.new) }
+    // What is due has the text of each name for which the ordered reading gives a tree whose text can be printed: the
+    // tree fits the rows, spells the name, and its references name components by order of completion.
+    ensures named { (o : FilterOptions) (work : Work) → verdict_on words.items ≡ Asks o work
+        → IfSome (input_for work (R.left input.old)) (λ bytes. All (IsNamedWhenShown o) (candidates work bytes)) }
     // Whatever the status is, a front of what is due was written and nothing else,
-    ensures front { IfSome (R.left input.old)
-        (λ bytes. Begins (W.written output.old) (W.written output.new) (due bytes)) }
-    // and all that is due so far for the bytes that were taken but a last block of at most 2^16.
-    ensures keeps_up { OfTaken (R.left input.old) (R.left input.new)
-        (KeepsUp (W.written output.old) (W.written output.new)) }
-    // After a failed read it is just what is due so far for the bytes that were taken,
-    ensures read_fault_written { result ≡ Status.ReadFault → OfTaken (R.left input.old) (R.left input.new)
-        (λ taken. Appends (W.written output.old) (W.written output.new) (due_so_far taken)) }
-    // and after too long an input that for its first 2^40 bytes.
-    ensures input_too_long_written { result ≡ Status.InputTooLong → IfSome (R.left input.old)
-        (λ bytes. Appends (W.written output.old) (W.written output.new) (due_so_far (take (2 ^ 40) bytes))) }
-    // With no fault, an input of at most 2^40 bytes is filtered to its end, but for want of memory,
-    ensures complete { vec_len words ≡ 0 → NoFault (R.faults input.old) (R.faults input.new)
-        → NoFault (W.faults output.old) (W.faults output.new)
-        → IfSome (R.left input.old)
+    ensures front { (o : FilterOptions) (work : Work) → verdict_on words.items ≡ Asks o work
+        → IfSome (input_for work (R.left input.old))
+        (λ bytes. Begins (W.written output.old) (W.written output.new) (due_for o work bytes)) }
+    // and for lines all that is due for the complete ones among the bytes that were taken but a last block of at most
+    // 2^16.
+    ensures keeps_up { (o : FilterOptions) → verdict_on words.items ≡ Asks o lines
+        → OfTaken (R.left input.old) (R.left input.new) (KeepsUp o (W.written output.old) (W.written output.new)) }
+    // After a failed read it is just what is due for the complete lines among the bytes that were taken,
+    ensures read_fault_written { (o : FilterOptions) → verdict_on words.items ≡ Asks o lines
+        → result ≡ Status.ReadFault → OfTaken (R.left input.old) (R.left input.new)
+        (λ taken. Appends (W.written output.old) (W.written output.new) (due o (complete taken))) }
+    // and after too long an input that for the complete lines among its first 2^40 bytes.
+    ensures input_too_long_written { (o : FilterOptions) → verdict_on words.items ≡ Asks o lines
+        → result ≡ Status.InputTooLong → IfSome (R.left input.old)
+        (λ bytes. Appends (W.written output.old) (W.written output.new) (due o (complete (take (2 ^ 40) bytes)))) }
+    // With no fault, work over an input of at most 2^40 bytes is done, but for want of memory,
+    ensures complete { (o : FilterOptions) (work : Work) → verdict_on words.items ≡ Asks o work
+        → NoFault (R.faults input.old) (R.faults input.new) → NoFault (W.faults output.old) (W.faults output.new)
+        → IfSome (input_for work (R.left input.old))
         (λ bytes. length bytes ≤ 2 ^ 40 → (result ≡ Status.Done) ⊎ (result ≡ Status.OutOfMemory)) }
-    // and a longer one is refused.
-    ensures refused { vec_len words ≡ 0 → NoFault (R.faults input.old) (R.faults input.new)
-        → NoFault (W.faults output.old) (W.faults output.new)
+    // and a longer input is refused.
+    ensures refused { (o : FilterOptions) → verdict_on words.items ≡ Asks o lines
+        → NoFault (R.faults input.old) (R.faults input.new) → NoFault (W.faults output.old) (W.faults output.new)
         → IfSome (R.left input.old)
         (λ bytes. 2 ^ 40 < length bytes → (result ≡ Status.InputTooLong) ⊎ (result ≡ Status.OutOfMemory)) }
-    ensures usage { result ≡ Status.Usage → 0 < vec_len words }
-    ensures words_refused { 0 < vec_len words → (result ≡ Status.Usage) ⊎ (result ≡ Status.OutOfMemory) }
-    ensures words_first { 0 < vec_len words → (R.left input.new ≡ R.left input.old)
-        × (R.taken input.new ≡ R.taken input.old) × (R.faults input.new ≡ R.faults input.old)
+    // Wrong words are refused, and nothing else is done.
+    ensures usage { result ≡ Status.Usage → verdict_on words.items ≡ Mistaken }
+    ensures usage_told { verdict_on words.items ≡ Mistaken
+        → ((result ≡ Status.Usage) ⊎ (result ≡ Status.OutOfMemory))
         × (W.written output.new ≡ W.written output.old) × (W.faults output.new ≡ W.faults output.old) }
+    ensures help { result ≡ Status.Help → verdict_on words.items ≡ AsksHelp }
+    ensures help_told { verdict_on words.items ≡ AsksHelp
+        → (result ≡ Status.Help) ⊎ ((result ≡ Status.WriteFault) ⊎ (result ≡ Status.OutOfMemory)) }
+    // Nothing is read but for lines.
+    ensures unread { reads (verdict_on words.items) ≡ false
+        → Unread (R.faults input.old) (R.faults input.new) (R.taken input.old) (R.taken input.new)
+        (R.left input.old) (R.left input.new) }
     ensures read_fault { result ≡ Status.ReadFault → Rose (R.faults input.old) (R.faults input.new) }
     ensures read_fault_told { R.faults input.old < R.faults input.new
         → (result ≡ Status.ReadFault) ⊎ (result ≡ Status.OutOfMemory) }
@@ -81,19 +112,114 @@ pub fn run<R: Source, W: Sink, E: Sink>(
         (λ taken. 2 ^ 40 < length taken → (result ≡ Status.InputTooLong) ⊎ (result ≡ Status.OutOfMemory)) }
     // No source is asked for more.
     ensures at_most { R.taken input.new ≤ R.taken input.old + 2 ^ 40 + 1 }
-    // Where `errors` had no fault, it was given the status's message and nothing else.
+    // Where `errors` had no fault, it was given the status's message and nothing else, but for wrong words.
     ensures message { NoFault (E.faults errors.old) (E.faults errors.new) → result ≢ Status.OutOfMemory
-        → Appends (E.written errors.old) (E.written errors.new) (message_of result) }
+        → result ≢ Status.Usage → Appends (E.written errors.old) (E.written errors.new) (message_of result) }
 {
-    if !words.is_empty() {
-        return report(Status::Usage, errors);
-    }
-    let status = filter_lines(alloc, INPUT_LIMIT, input, output);
-    report(status, errors)
+    run_by_words(alloc, words, input, output, errors)
 }
 
-/// Writes a status's message. A fault of `errors` changes no status; its want of memory makes the status `OutOfMemory`.
-fn report<E: Sink>(status: Status, errors: &mut E) -> Status
+/// `run`, with all that is said of it but for its message in one word.
+fn run_by_words<R: Source, W: Sink, E: Sink>(
+    alloc: Global,
+    words: Vec<String>,
+    input: &mut R,
+    output: &mut W,
+    errors: &mut E,
+) -> Status
+    ensures ended { Ended (verdict_on words.items) result (R.faults input.old) (R.faults input.new)
+        (W.faults output.old) (W.faults output.new) (R.taken input.old) (R.taken input.new)
+        (R.left input.old) (R.left input.new) (W.written output.old) (W.written output.new) }
+    ensures message { NoFault (E.faults errors.old) (E.faults errors.new) → result ≢ Status.OutOfMemory
+        → result ≢ Status.Usage → Appends (E.written errors.old) (E.written errors.new) (message_of result) }
+{
+    let Ok(all) = with_name(alloc, words) else {
+        return report(Status::OutOfMemory, errors);
+    };
+    run_judged(alloc, all.as_slice(), input, output, errors)
+}
+
+/// The program over all the words, of which the first is its name.
+fn run_judged<R: Source, W: Sink, E: Sink>(
+    alloc: Global,
+    all: &[String],
+    input: &mut R,
+    output: &mut W,
+    errors: &mut E,
+) -> Status
+    ensures ended { Ended (judgement (map string_bytes all.now)) result (R.faults input.old) (R.faults input.new)
+        (W.faults output.old) (W.faults output.new) (R.taken input.old) (R.taken input.new)
+        (R.left input.old) (R.left input.new) (W.written output.old) (W.written output.new) }
+    ensures message { NoFault (E.faults errors.old) (E.faults errors.new) → result ≢ Status.OutOfMemory
+        → result ≢ Status.Usage → Appends (E.written errors.old) (E.written errors.new) (message_of result) }
+{
+    match judge(alloc, all) {
+        Ok(request) => report(perform(alloc, &request, input, output), errors),
+        Err(Refusal::Help(text)) => report(show_help(text.as_str(), output), errors),
+        Err(Refusal::Usage(text)) => show_usage(text.as_str(), errors),
+        Err(Refusal::OutOfMemory) => report(Status::OutOfMemory, errors),
+    }
+}
+
+/// The words with the program's name before them.
+fn with_name(alloc: Global, words: Vec<String>) -> Result<Vec<String>, AllocError>
+    ensures { IfOk result (λ all. map string_bytes all.items ≡ codes "cppfilt" ∷ map string_bytes words.items) }
+{
+    let mut all = words;
+    all.insert(0, String::from_str(alloc, "cppfilt")?)?;
+    Ok(all)
+}
+
+/// Does what is asked for.
+fn perform<R: Source, W: Sink>(
+    alloc: Global,
+    request: &Request<'_>,
+    input: &mut R,
+    output: &mut W,
+) -> Status
+    ensures { Performed request.now.options (work_of request.now.task) result (R.faults input.old) (R.faults input.new)
+        (W.faults output.old) (W.faults output.new) (R.taken input.old) (R.taken input.new)
+        (R.left input.old) (R.left input.new) (W.written output.old) (W.written output.new) }
+{
+    let options = &request.options;
+    match &request.task {
+        Task::Lines => filtered(alloc, options, INPUT_LIMIT, input, output),
+        Task::Names(names) => show_names(alloc, options, names.as_slice(), output),
+        Task::Sample(count) => show_sample(alloc, options, *count, output),
+    }
+}
+
+/// Writes the text of help.
+fn show_help<W: Sink>(text: &str, output: &mut W) -> Status
+    ensures { Helped result (W.faults output.old) (W.faults output.new) }
+{
+    match write_all(output, text.as_bytes()) {
+        Ok(()) => Status::Help,
+        Err(fault) => status_of(fault),
+    }
+}
+
+/// Tells what is wrong with the words. A fault of `errors` changes no status; its want of memory makes the status
+/// `OutOfMemory`.
+fn show_usage<E: Sink>(text: &str, errors: &mut E) -> Status
+    ensures { (result ≡ Status.Usage) ⊎ (result ≡ Status.OutOfMemory) }
+{
+    match write_all(errors, text.as_bytes()) {
+        Err(SinkFault::OutOfMemory) => Status::OutOfMemory,
+        _ => Status::Usage,
+    }
+}
+
+/// Tells that some word is no text.
+pub(crate) fn refuse_words<E: Sink>(errors: &mut E) -> Status
+    ensures { (result ≡ Status.Usage) ⊎ (result ≡ Status.OutOfMemory) }
+{
+    show_usage("error: a word is not valid UTF-8\n", errors)
+}
+
+/// Writes a status's message. A fault of `errors` changes no status; its want of memory makes the status
+/// `OutOfMemory`.
+pub(crate) fn report<E: Sink>(status: Status, errors: &mut E) -> Status
     ensures kept { (result ≡ status) ⊎ (result ≡ Status.OutOfMemory) }
     ensures message { NoFault (E.faults errors.old) (E.faults errors.new) → result ≢ Status.OutOfMemory
         → Appends (E.written errors.old) (E.written errors.new) (message_of result) }

@@ -9,9 +9,11 @@ use std::process::ExitCode;
 /// How a run ends.
 #[derive(Clone, Copy, Debug, PartialEq, Eq)]
 pub enum Status {
-    /// The input was read to its end, and all that is due was written.
+    /// All that is due was written.
     Done,
-    /// Words were given, and none are taken yet.
+    /// Help was asked for, and was written.
+    Help,
+    /// The words are wrong.
     Usage,
     /// A read failed.
     ReadFault,
@@ -24,12 +26,13 @@ pub enum Status {
 }
 
 impl Status {
-    /// The process's exit status: 0 for `Done`, else the status's own number from 2 to 6.
+    /// The process's exit status: 0 for `Done` and `Help`, else the status's own number from 2 to 6.
     pub fn code(&self) -> u8
         ensures { result ≡ code_of self.now }
     {
         match self {
             Status::Done => 0,
+            Status::Help => 0,
             Status::Usage => 2,
             Status::ReadFault => 3,
             Status::WriteFault => 4,
@@ -45,13 +48,15 @@ impl Status {
         ExitCode::from(self.code())
     }
 
-    /// What is written to standard error, through its line feed; nothing for `Done`.
+    /// What is written to standard error, through its line feed; nothing for `Done` and `Help`, and for
+    /// `Usage`, whose text is another for each mistake.
     pub fn message(&self) -> &'static [u8]
         ensures { result.now ≡ message_of self.now }
     {
         match self {
             Status::Done => b"",
-            Status::Usage => b"cppfilt: no words are taken yet\n",
+            Status::Help => b"",
+            Status::Usage => b"",
             Status::ReadFault => b"cppfilt: read fault\n",
             Status::WriteFault => b"cppfilt: write fault\n",
             Status::InputTooLong => b"cppfilt: input too long\n",

@@ -5,16 +5,26 @@ ghost use Rattle.std.specs.Prelude.{◌≡◌, drop};
 use std::alloc::AllocError;
 use std::env::{self, Env};
 
-/// The words after the program's name. Words that are no text count as one word, which is refused.
-pub fn words(rt: &(impl Env + AllocGlobal)) -> Result<Vec<String>, AllocError> {
-    let alloc = rt.alloc();
+/// Why a process has no words to hand on.
+#[derive(Clone, Copy, Debug, PartialEq, Eq)]
+pub enum NoWords {
+    /// Some word is no text.
+    NoText,
+    /// There was no memory for them.
+    OutOfMemory,
+}
+
+impl From<AllocError> for NoWords {
+    fn from(_error: AllocError) -> NoWords {
+        NoWords::OutOfMemory
+    }
+}
+
+/// The words after the program's name.
+pub fn words(rt: &(impl Env + AllocGlobal)) -> Result<Vec<String>, NoWords> {
     match env::args(rt) {
-        Ok(arguments) => Ok(words_of(arguments.collect(alloc)?)),
-        Err(_) => {
-            let mut words = Vec::new(alloc);
-            words.push(String::new(alloc))?;
-            Ok(words)
-        }
+        Ok(arguments) => Ok(words_of(arguments.collect(rt.alloc())?)),
+        Err(_) => Err(NoWords::NoText),
     }
 }
 

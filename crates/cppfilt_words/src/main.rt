@@ -1,4 +1,4 @@
-//! The program `cppfilt` once more, for its second stored run: a word is refused, with the exit status 2.
+//! The program `cppfilt` once more, for its second stored run: words with options and names, so that nothing is read.
 #![tactic(auto)]
 
 use cppfilt_run::program::{Ended, start};

@@ -1,4 +1,3 @@
-pub mod LineLaws
 pub mod Truth
 pub mod Numbers
 pub mod Holds

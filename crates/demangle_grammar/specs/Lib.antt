@@ -1,5 +1,3 @@
-pub mod CallText
-pub mod Lines
 pub mod Rule
 pub mod Items
 pub mod Rows

@@ -1,67 +1,80 @@
-use Rattle.cppfilt_run.proofs.RunLaws.{nothing-front, nothing-keeps_up, nothing-short}
-use Rattle.cppfilt_run.proofs.ReportLaws.{run-done, run-read-written, run-long-written, run-complete, run-refused}
-use Rattle.cppfilt_run.proofs.ReportLaws.{run-usage, run-read, run-read-told, run-write, run-write-told, run-long}
-use Rattle.cppfilt_run.proofs.ReportLaws.{run-long-told, run-long-bytes, run-long-bytes-told, run-at_most}
+use Rattle.cppfilt_lines.proofs.NamedLaws.{each_named}
+use Rattle.cppfilt_run.proofs.RanLaws.{ended-done, ended-front, ended-complete, ended-usage, ended-usage-told}
+use Rattle.cppfilt_run.proofs.RanLaws.{ended-help}
+use Rattle.cppfilt_run.proofs.RanLaws.{ended-help-told, ended-unread, ended-read, ended-read-told, ended-write}
+use Rattle.cppfilt_run.proofs.RanLaws.{ended-write-told, ended-long, ended-long-told, ended-long-bytes}
+use Rattle.cppfilt_run.proofs.RanLaws.{ended-long-bytes-told, ended-at_most, ended-done-reads, ended-keeps_up}
+use Rattle.cppfilt_run.proofs.RanLaws.{ended-read-written, ended-long-written, ended-refused}
 use Rattle.cppfilt_run.proofs.run.run.Goals as goal
 
--- a word is given
-pub returns-then-not-is_empty-clause-front : goal.returns-then-not-is_empty-clause-front
-returns-then-not-is_empty-clause-front g c = nothing-front _ _
+pub returns-clause-done : goal.returns-clause-done
+returns-clause-done g c o work is e = ended-done c.run_by_words.ensures.ended o work is e
 
-pub returns-then-not-is_empty-clause-keeps_up : goal.returns-then-not-is_empty-clause-keeps_up
-returns-then-not-is_empty-clause-keeps_up g c = nothing-keeps_up _ _
+pub returns-clause-done_reads : goal.returns-clause-done_reads
+returns-clause-done_reads g c o is e = ended-done-reads c.run_by_words.ensures.ended o is e
 
-pub returns-then-not-is_empty-clause-input_too_long_bytes_told : goal.returns-then-not-is_empty-clause-input_too_long_bytes_told
-returns-then-not-is_empty-clause-input_too_long_bytes_told g c = nothing-short _ _ _
-
--- no word is
 pub returns-clause-front : goal.returns-clause-front
-returns-clause-front g c = c.filter_lines-status.ensures.front
+returns-clause-front g c o work is = ended-front c.run_by_words.ensures.ended o work is
 
 pub returns-clause-keeps_up : goal.returns-clause-keeps_up
-returns-clause-keeps_up g c = c.filter_lines-status.ensures.keeps_up
-
-pub returns-clause-done : goal.returns-clause-done
-returns-clause-done g c e = run-done c.filter_lines-status.result _ c.filter_lines-status.ensures c.report-2.ensures.kept e
+returns-clause-keeps_up g c o is = ended-keeps_up c.run_by_words.ensures.ended o is
 
 pub returns-clause-read_fault_written : goal.returns-clause-read_fault_written
-returns-clause-read_fault_written g c e = run-read-written c.filter_lines-status.result _ c.filter_lines-status.ensures c.report-2.ensures.kept e
+returns-clause-read_fault_written g c o is e = ended-read-written c.run_by_words.ensures.ended o is e
 
 pub returns-clause-input_too_long_written : goal.returns-clause-input_too_long_written
-returns-clause-input_too_long_written g c e = run-long-written c.filter_lines-status.result _ c.filter_lines-status.ensures c.report-2.ensures.kept e
+returns-clause-input_too_long_written g c o is e = ended-long-written c.run_by_words.ensures.ended o is e
 
 pub returns-clause-complete : goal.returns-clause-complete
-returns-clause-complete g c words reads writes = run-complete c.filter_lines-status.result _ c.filter_lines-status.ensures c.report-2.ensures.kept reads writes
+returns-clause-complete g c o work is read write = ended-complete c.run_by_words.ensures.ended o work is read write
 
 pub returns-clause-refused : goal.returns-clause-refused
-returns-clause-refused g c words reads writes = run-refused c.filter_lines-status.result _ c.filter_lines-status.ensures c.report-2.ensures.kept reads writes
+returns-clause-refused g c o is read write = ended-refused c.run_by_words.ensures.ended o is read write
 
 pub returns-clause-usage : goal.returns-clause-usage
-returns-clause-usage g c e = absurd (run-usage c.filter_lines-status.result _ c.filter_lines-status.ensures c.report-2.ensures.kept e)
+returns-clause-usage g c e = ended-usage c.run_by_words.ensures.ended e
+
+pub returns-clause-usage_told : goal.returns-clause-usage_told
+returns-clause-usage_told g c e = ended-usage-told c.run_by_words.ensures.ended e
+
+pub returns-clause-help : goal.returns-clause-help
+returns-clause-help g c e = ended-help c.run_by_words.ensures.ended e
+
+pub returns-clause-help_told : goal.returns-clause-help_told
+returns-clause-help_told g c e = ended-help-told c.run_by_words.ensures.ended e
+
+pub returns-clause-unread : goal.returns-clause-unread
+returns-clause-unread g c e = ended-unread c.run_by_words.ensures.ended e
 
 pub returns-clause-read_fault : goal.returns-clause-read_fault
-returns-clause-read_fault g c e = run-read c.filter_lines-status.result _ c.filter_lines-status.ensures c.report-2.ensures.kept e
+returns-clause-read_fault g c e = ended-read c.run_by_words.ensures.ended e
 
 pub returns-clause-read_fault_told : goal.returns-clause-read_fault_told
-returns-clause-read_fault_told g c e = run-read-told c.filter_lines-status.result _ c.filter_lines-status.ensures c.report-2.ensures.kept e
+returns-clause-read_fault_told g c e = ended-read-told c.run_by_words.ensures.ended e
 
 pub returns-clause-write_fault : goal.returns-clause-write_fault
-returns-clause-write_fault g c e = run-write c.filter_lines-status.result _ c.filter_lines-status.ensures c.report-2.ensures.kept e
+returns-clause-write_fault g c e = ended-write c.run_by_words.ensures.ended e
 
 pub returns-clause-write_fault_told : goal.returns-clause-write_fault_told
-returns-clause-write_fault_told g c e = run-write-told c.filter_lines-status.result _ c.filter_lines-status.ensures c.report-2.ensures.kept e
+returns-clause-write_fault_told g c e = ended-write-told c.run_by_words.ensures.ended e
 
 pub returns-clause-input_too_long : goal.returns-clause-input_too_long
-returns-clause-input_too_long g c e = run-long c.filter_lines-status.result _ c.filter_lines-status.ensures c.report-2.ensures.kept e
+returns-clause-input_too_long g c e = ended-long c.run_by_words.ensures.ended e
 
 pub returns-clause-input_too_long_told : goal.returns-clause-input_too_long_told
-returns-clause-input_too_long_told g c e = run-long-told c.filter_lines-status.result _ c.filter_lines-status.ensures c.report-2.ensures.kept e
+returns-clause-input_too_long_told g c e = ended-long-told c.run_by_words.ensures.ended e
 
 pub returns-clause-input_too_long_bytes : goal.returns-clause-input_too_long_bytes
-returns-clause-input_too_long_bytes g c e = run-long-bytes c.filter_lines-status.result _ c.filter_lines-status.ensures c.report-2.ensures.kept e
+returns-clause-input_too_long_bytes g c e = ended-long-bytes c.run_by_words.ensures.ended e
 
 pub returns-clause-input_too_long_bytes_told : goal.returns-clause-input_too_long_bytes_told
-returns-clause-input_too_long_bytes_told g c = run-long-bytes-told c.filter_lines-status.result _ c.filter_lines-status.ensures c.report-2.ensures.kept
+returns-clause-input_too_long_bytes_told g c = ended-long-bytes-told c.run_by_words.ensures.ended
 
 pub returns-clause-at_most : goal.returns-clause-at_most
-returns-clause-at_most g c = run-at_most c.filter_lines-status.result c.filter_lines-status.ensures
+returns-clause-at_most g c = ended-at_most c.run_by_words.ensures.ended
+
+pub returns-clause-named : goal.returns-clause-named
+returns-clause-named g c o work is = each_named o work _
+
+pub returns-clause-message : goal.returns-clause-message
+returns-clause-message g c none memory usage = c.run_by_words.ensures.message none memory usage

@@ -1,23 +1,37 @@
-use Rattle.cppfilt_run.proofs.MoveLaws.{refusal}
-use Rattle.cppfilt_run.proofs.FilterLaws.{moves-completed, begins-completed}
-use Rattle.cppfilt_run.proofs.OwedLaws.{kept-closed}
+use Rattle.std.proofs.Common.{◌≡◌, ◌∙◌, length, rules}
+use Rattle.cppfilt_ends.proofs.MoveLaws.{refusal, refusal-none}
+use Rattle.cppfilt_run.proofs.OwedLaws.{gives-completed, moves-completed, begins-completed, nil-from_length}
 use Rattle.cppfilt_run.proofs.lines.LineFilter.complete.Goals as goal
 
-pub returns-in_err-emit_completed-clause-gives : goal.returns-in_err-emit_completed-clause-gives
-returns-in_err-emit_completed-clause-gives g c more =
+-- nothing is held
+pub returns-then-is_empty-clause-gives : goal.returns-then-is_empty-clause-gives
+returns-then-is_empty-clause-gives g c more =
     let this = c.args.self.now in
-    let refused = c.in_err-emit_completed.ensures in
-    refusal _ _ _ _ _ _ _ _ c.from_residual.ensures.1
-    (refused.0, begins-completed _ _ this.pending.items this.passing this.held.items c.args.line.now c.requires.free c.requires.ended refused.1 more)
+    let none : length c.args.self.now.held.items ≡ 0 = search rules in
+    gives-completed c.args.options.now _ _ _ _ _ this.pending.items c.emit_line.new.pending.items this.held.items
+    c.args.line.now (nil-from_length this.held.items none) c.requires.ended c.emit_line.ensures more
+
+-- nothing was written
+pub returns-in_err-extend_from_slice-clause-gives : goal.returns-in_err-extend_from_slice-clause-gives
+returns-in_err-extend_from_slice-clause-gives g c more = refusal-none _ _ _ _ _ c.from_residual.ensures.1
+
+pub returns-in_err-emit_line-clause-gives : goal.returns-in_err-emit_line-clause-gives
+returns-in_err-emit_line-clause-gives g c more =
+    let this = c.args.self.now in
+    let refused = c.in_err-emit_line.ensures in
+    let whole = c.as_slice.ensures.value ∙ c.in_ok-extend_from_slice.ensures.items in
+    refusal _ _ _ _ _ _ _ _ c.from_residual-in_err-emit_line.ensures.1 (
+      refused.0,
+      begins-completed c.args.options.now _ _ this.pending.items this.held.items c.args.line.now c.requires.free
+          c.requires.ended (rw (← whole) refused.1) more,
+    )
 
 pub returns-clause-gives : goal.returns-clause-gives
 returns-clause-gives g c more =
     let this = c.args.self.now in
-    let done = c.in_ok-emit_completed.ensures in (
+    let done = c.in_ok-emit_line.ensures in
+    let whole = c.as_slice.ensures.value ∙ c.in_ok-extend_from_slice.ensures.items in (
       done.0,
-      rw c.clear.ensures.items
-          (moves-completed _ _ this.pending.items c.emit_completed.new.pending.items this.passing this.held.items c.args.line.now c.requires.free c.requires.ended done.1 more),
+      moves-completed c.args.options.now _ _ this.pending.items c.emit_line-2.new.pending.items this.held.items
+          c.args.line.now _ c.requires.free c.requires.ended (rw (← whole) done.1) c.clear.ensures.items more,
     )
-
-pub returns-clause-kept : goal.returns-clause-kept
-returns-clause-kept g c seen kept = kept-closed _ seen c.args.line.now c.requires.ended c.clear.ensures.items

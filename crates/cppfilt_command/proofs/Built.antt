@@ -1,0 +1,11 @@
+-- A command with one more argument.
+use Rattle.std.proofs.Common.{◌≡◌, ◌∙◌, ap₂, false}
+use Rattle.clap.specs.Built.{AddsArg}
+use Rattle.clap.specs.Simple.{App, app_of, with_rule}
+use Rattle.clap.specs.Walk.{Rule, rule_of}
+use Rattle.clap.specs.declared.builder.arg.Arg.{Arg}
+use Rattle.clap.specs.declared.builder.command.Command.{Command}
+
+pub added : (old new : Command) (a : Arg) (app : App) (rule : Rule) → AddsArg old a new → app_of old ≡ app
+    → a.global ≡ false → rule_of a ≡ rule → app_of new ≡ with_rule app rule
+added old new a app rule adds is local same = adds.shape local ∙ ap₂ with_rule is same

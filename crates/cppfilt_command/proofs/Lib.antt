@@ -1,0 +1,4 @@
+pub mod Built
+pub mod OneFault
+pub mod Rows
+pub mod Verdicts

@@ -1,0 +1,5 @@
+pub mod Asked
+pub mod Command
+pub mod Kinds
+pub mod Mistakes
+pub mod Refusals

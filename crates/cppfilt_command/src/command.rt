@@ -1,0 +1,135 @@
+//! The command that takes the words: one simple command of `clap`.
+
+ghost use Rattle.std.specs.Prelude.{◌≡◌, IfOk, false};
+ghost use Rattle.clap.specs.Words.{app_of, rule_of};
+ghost use Rattle.cppfilt_command.specs.Command.{command, flag, names, number, with_flags, with_numbers};
+
+use clap::{Arg, ArgAction, Command};
+use std::alloc::{AllocError, Global};
+
+/// What stands above the usage.
+const ABOUT: &str = "\
+Shows C++ linker names as the names in the source.
+
+Each line of standard input that is a linker name of the Itanium C++ ABI, as GCC and Clang make
+them, is replaced by its text. All other lines are written as they are.";
+
+/// What stands behind the options.
+const AFTER: &str = "\
+Exit status:
+  0  done
+  2  wrong words
+  3  a read failed
+  4  a write failed
+  5  the input has more than 2^40 bytes
+  6  out of memory
+
+Examples:
+  nm -P libexample.so | cut -d' ' -f1 | cppfilt
+  cppfilt _ZNSt6vectorIiSaIiEE9push_backERKi
+  cppfilt --types --why < names.txt";
+
+/// A flag by its name and its letter.
+fn flag<'a>(alloc: Global, name: &'a str, letter: char, help: &'a str) -> Arg<'a>
+    ensures rule { rule_of result ≡ flag name.entry.now letter }
+    ensures local { result.global ≡ false }
+{
+    Arg::new(alloc, name)
+        .long(name)
+        .short(letter)
+        .action(ArgAction::SetTrue)
+        .help(help)
+}
+
+/// An option with a number.
+fn number<'a>(alloc: Global, name: &'a str, help: &'a str) -> Arg<'a>
+    ensures rule { rule_of result ≡ number name.entry.now }
+    ensures local { result.global ≡ false }
+{
+    Arg::new(alloc, name).long(name).value_name("N").help(help)
+}
+
+/// The names, in any number.
+fn names<'a>(alloc: Global) -> Arg<'a>
+    ensures rule { rule_of result ≡ names }
+    ensures local { result.global ≡ false }
+{
+    Arg::new(alloc, "names")
+        .value_name("NAME")
+        .action(ArgAction::Append)
+        .help("Show these names, one a line, in place of standard input")
+}
+
+/// A command with the flags.
+fn with_flags<'a>(alloc: Global, command: Command<'a>) -> Result<Command<'a>, AllocError>
+    ensures { IfOk result (λ c. app_of c ≡ with_flags (app_of command.entry)) }
+{
+    command
+        .arg(flag(
+            alloc,
+            "no-params",
+            'p',
+            "Leave out the parameters of functions",
+        ))?
+        .arg(flag(
+            alloc,
+            "no-return-type",
+            'r',
+            "Leave out the result types of function templates",
+        ))?
+        .arg(flag(
+            alloc,
+            "hide-literal-types",
+            'l',
+            "Leave out the types of literals",
+        ))?
+        .arg(flag(
+            alloc,
+            "types",
+            't',
+            "Take every line for a name, so that encoded types are shown too",
+        ))?
+        .arg(flag(
+            alloc,
+            "why",
+            'w',
+            "Put a tab and the cause behind a name that has no text",
+        ))
+}
+
+/// A command with the options that have numbers.
+fn with_numbers<'a>(alloc: Global, command: Command<'a>) -> Result<Command<'a>, AllocError>
+    ensures { IfOk result (λ c. app_of c ≡ with_numbers (app_of command.entry)) }
+{
+    command
+        .arg(number(
+            alloc,
+            "parse-limit",
+            "Levels of nesting in a name, 1 to 1024 [default: 96]",
+        ))?
+        .arg(number(
+            alloc,
+            "print-limit",
+            "Levels of nesting in its text, 1 to 1024 [default: 128]",
+        ))?
+        .arg(number(
+            alloc,
+            "max-output",
+            "Longest text of a name in bytes, 1 to 1073741824 [default: no limit]",
+        ))?
+        .arg(number(
+            alloc,
+            "sample",
+            "Demangle a sample of N names, 1 to 100000, and count their texts",
+        ))
+}
+
+/// The command.
+pub(crate) fn command<'a>(alloc: Global) -> Result<Command<'a>, AllocError>
+    ensures { IfOk result (λ c. app_of c ≡ command) }
+{
+    let bare = Command::new(alloc, "cppfilt")
+        .about(ABOUT)
+        .after_help(AFTER);
+    with_numbers(alloc, with_flags(alloc, bare)?)?.arg(names(alloc))
+}

@@ -1,0 +1,15 @@
+//! The words of the command line of `cppfilt`: what they ask for, or what is to be written in place of it.
+#![tactic(auto)]
+
+mod command;
+mod number;
+mod options;
+mod refusal;
+mod request;
+#[cfg(test)]
+mod tests;
+mod verdict;
+
+pub use refusal::Refusal;
+pub use request::{Request, Task};
+pub use verdict::judge;

@@ -1,0 +1,142 @@
+//! A source and a sink in memory that move few bytes a call, and fail at chosen calls. They tell their bytes.
+
+ghost use Rattle.std.specs.Prelude.{◌≡◌, ◌+◌, ◌-◌, ◌^◌, ◌<◌, ◌≤◌, ◌↔◌, [], Contains, IfOk, IsErr, IsErrOf, Some};
+ghost use Rattle.std.specs.Prelude.{length, min};
+ghost use Rattle.std.specs.Io.{ReadsAtMost};
+ghost use Rattle.std.specs.Io.KnownBytes.{ReadConsumes, WriteAppends};
+ghost use Rattle.cppfilt_ends.specs.Causes.{SinkCause, SourceCause, TakenCount};
+
+use crate::ends::{Failed, Sink, Source, read_front};
+use crate::memory::VecSource;
+use demangle_context::SinkFault;
+use std::alloc::Global;
+
+/// A source of given bytes.
+#[derive(Drop)]
+pub struct FaultySource {
+    inner: VecSource,
+    step: usize,
+    fail_at: Vec<u64>,
+    calls: u64,
+    faults: u64,
+    ghost moves: { 0 < step },
+}
+
+impl FaultySource {
+    /// A source whose bytes are these, of which a call moves at most `step`; the calls whose numbers are listed, from
+    /// 0, fail. Each call after number 2^64 - 1 has that number too.
+    pub fn new(bytes: Vec<u8>, step: usize, fail_at: Vec<u64>) -> FaultySource
+        requires { 0 < step }
+        ensures left { ⟦<FaultySource as Source>⟧.left result ≡ Some bytes.items }
+        ensures taken { ⟦<FaultySource as Source>⟧.taken result ≡ 0 }
+        ensures faults { ⟦<FaultySource as Source>⟧.faults result ≡ 0 }
+        ensures calls { (result.calls ≡ 0) × (result.step ≡ step) × (result.fail_at.items ≡ fail_at.items) }
+    {
+        FaultySource {
+            inner: VecSource::new(bytes),
+            step,
+            fail_at,
+            calls: 0,
+            faults: 0,
+        }
+    }
+}
+
+impl Source for FaultySource {
+    ghost left = { λ source. ⟦<VecSource as Source>⟧.left source.inner };
+
+    ghost faults = { λ source. source.faults };
+
+    ghost taken = { λ source. ⟦<VecSource as Source>⟧.taken source.inner };
+
+    /// As the trait's; `Failed` comes at just the listed calls.
+    fn read(&mut self, buf: &mut [u8]) -> Result<usize, Failed>
+        ensures bound { ReadsAtMost result buf.new }
+        ensures bytes { ReadConsumes (⟦<FaultySource as Source>⟧.left self.old)
+            (⟦<FaultySource as Source>⟧.left self.new) result buf.new }
+        ensures count { TakenCount (⟦<FaultySource as Source>⟧.taken self.old)
+            (⟦<FaultySource as Source>⟧.taken self.new) result }
+        ensures cause { SourceCause (⟦<FaultySource as Source>⟧.faults self.old)
+            (⟦<FaultySource as Source>⟧.faults self.new) result }
+        ensures fails { IsErr result ↔ Contains self.old.fail_at.items self.old.calls }
+        ensures step { IfOk result (λ n. n ≤ self.old.step) }
+        ensures calls { self.new.calls ≡ min (self.old.calls + 1) (2 ^ 64 - 1) }
+        ensures kept { (self.new.step ≡ self.old.step) × (self.new.fail_at.items ≡ self.old.fail_at.items) }
+    {
+        let call = self.calls;
+        self.calls = call.saturating_add(1);
+        if self.fail_at.contains(&call) {
+            self.faults = self.faults.saturating_add(1);
+            return Err(Failed);
+        }
+        let most = buf.len().min(self.step);
+        read_front(&mut self.inner, buf, most)
+    }
+}
+
+/// A sink that keeps what it is given.
+#[derive(Drop)]
+pub struct FaultySink {
+    bytes: Vec<u8>,
+    step: usize,
+    fail_at: Vec<u64>,
+    calls: u64,
+    faults: u64,
+    ghost moves: { 0 < step },
+}
+
+impl FaultySink {
+    /// An empty sink, which takes at most `step` bytes a call; the calls whose numbers are listed, from 0, fail. Each
+    /// call after number 2^64 - 1 has that number too.
+    pub fn new(alloc: Global, step: usize, fail_at: Vec<u64>) -> FaultySink
+        requires { 0 < step }
+        ensures written { ⟦<FaultySink as Sink>⟧.written result ≡ Some [] }
+        ensures faults { ⟦<FaultySink as Sink>⟧.faults result ≡ 0 }
+        ensures calls { (result.calls ≡ 0) × (result.step ≡ step) × (result.fail_at.items ≡ fail_at.items) }
+    {
+        FaultySink {
+            bytes: Vec::new(alloc),
+            step,
+            fail_at,
+            calls: 0,
+            faults: 0,
+        }
+    }
+
+    /// The bytes that were written.
+    pub fn bytes(&self) -> &[u8]
+        ensures { ⟦<FaultySink as Sink>⟧.written self.now ≡ Some result.now }
+    {
+        self.bytes.as_slice()
+    }
+}
+
+impl Sink for FaultySink {
+    ghost written = { λ sink. Some sink.bytes.items };
+
+    ghost faults = { λ sink. sink.faults };
+
+    /// As the trait's; `Failed` comes at just the listed calls.
+    fn write(&mut self, piece: &[u8]) -> Result<usize, SinkFault>
+        ensures bound { IfOk result (λ n. n ≤ length piece.now) }
+        ensures advances { IfOk result (λ n. 0 < length piece.now → 0 < n) }
+        ensures bytes { WriteAppends (⟦<FaultySink as Sink>⟧.written self.old)
+            (⟦<FaultySink as Sink>⟧.written self.new) result piece.now }
+        ensures cause { SinkCause (⟦<FaultySink as Sink>⟧.faults self.old)
+            (⟦<FaultySink as Sink>⟧.faults self.new) result }
+        ensures fails { IsErrOf result SinkFault.Failed ↔ Contains self.old.fail_at.items self.old.calls }
+        ensures step { IfOk result (λ n. n ≤ self.old.step) }
+        ensures calls { self.new.calls ≡ min (self.old.calls + 1) (2 ^ 64 - 1) }
+        ensures kept { (self.new.step ≡ self.old.step) × (self.new.fail_at.items ≡ self.old.fail_at.items) }
+    {
+        let call = self.calls;
+        self.calls = call.saturating_add(1);
+        if self.fail_at.contains(&call) {
+            self.faults = self.faults.saturating_add(1);
+            return Err(SinkFault::Failed);
+        }
+        let count = piece.len().min(self.step);
+        self.bytes.extend_from_slice(&piece[..count])?;
+        Ok(count)
+    }
+}

@@ -1,0 +1,6 @@
+pub mod Due
+pub mod Lines
+pub mod Named
+pub mod Sample
+pub mod Shown
+pub mod Work

@@ -1,0 +1,10 @@
+-- What bytes become that have no text.
+use Rattle.std.specs.Prelude.{◌≡◌, ◌≢◌, ℕ, Bool, List}
+use Rattle.cpp_demangle.specs.Answer.{fault_text}
+use Rattle.cpp_demangle.specs.declared.demangle.SymbolFault.{SymbolFault}
+use Rattle.cpp_demangle.specs.declared.demangle.SymbolFault.TheVariants as fault
+use Rattle.cppfilt_lines.specs.Shown.{refused}
+
+-- these bytes, unless there was no memory
+abbrev pub IsRefused : (whole : List ℕ) → (why : Bool) → (bytes : List ℕ) → SymbolFault → Type 0
+IsRefused whole why bytes f = f ≢ fault.OutOfMemory → whole ≡ refused why bytes (fault_text f)

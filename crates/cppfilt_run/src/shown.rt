@@ -1,0 +1,105 @@
+//! What the bytes of a line become: their text where they are asked and have one.
+
+ghost use Rattle.std.specs.Prelude.{◌≡◌, ℕ, ◌==◌, List, ◌++◌, slice_index, true};
+ghost use Rattle.cppfilt_ends.specs.Moves.{Gives};
+ghost use Rattle.cppfilt_run.specs.Refused.{IsRefused};
+ghost use Rattle.cppfilt_lines.specs.Shown.{is_named, is_asked, refused, shown};
+
+use cpp_demangle::{SymbolFault, demangle_symbol};
+use cppfilt_ends::ends::Sink;
+use cppfilt_ends::output::{emit, emit_both};
+use cppfilt_lines::FilterOptions;
+use demangle_context::SinkFault;
+use std::alloc::Global;
+
+/// A line with more bytes than this before its ending is never asked for its text.
+const LINE_LIMIT: usize = 1_048_576;
+
+/// Whether there is a first byte with which linker names begin.
+fn begins_so(bytes: &[u8]) -> bool
+    ensures { result ≡ (slice_index bytes.now 0 == 95) }
+{
+    matches!(bytes, [b'_', ..])
+}
+
+/// Whether a linker name begins so.
+fn is_named(bytes: &[u8]) -> bool
+    ensures { result ≡ is_named bytes.now }
+{
+    if !begins_so(bytes) {
+        return false;
+    }
+    begins_name(bytes)
+}
+
+/// Whether a linker name begins so, judged by all of its beginning.
+fn begins_name(bytes: &[u8]) -> bool
+    ensures { result ≡ is_named bytes.now }
+{
+    bytes.starts_with(b"_Z")
+        || bytes.starts_with(b"__Z")
+        || bytes.starts_with(b"___Z")
+        || bytes.starts_with(b"____Z")
+        || bytes.starts_with(b"_GLOBAL_")
+}
+
+/// Whether these bytes of a line are asked for their text.
+pub(crate) fn is_asked(options: &FilterOptions, bytes: &[u8]) -> bool
+    ensures { result ≡ is_asked options.now bytes.now }
+{
+    bytes.len() <= LINE_LIMIT && (options.types || is_named(bytes))
+}
+
+/// Gives on what bytes become that are asked: their text, or they themselves, with the cause where causes are shown.
+pub(crate) fn emit_asked<W: Sink>(
+    alloc: Global,
+    options: &FilterOptions,
+    output: &mut W,
+    pending: &mut Vec<u8>,
+    bytes: &[u8],
+) -> Result<(), SinkFault>
+    requires { is_asked options.now bytes.now ≡ true }
+    ensures { Gives (W.written output.old) (W.written output.new) (W.faults output.old) (W.faults output.new) result
+        (pending.old.items ++ shown options.now bytes.now) pending.new.items }
+{
+    match demangle_symbol(alloc, bytes, &options.parse, &options.print) {
+        Ok(text) => emit(output, pending, text.as_bytes()),
+        Err(fault) => emit_fault(options.why, output, pending, bytes, fault),
+    }
+}
+
+/// Gives on bytes that have no text because of a fault, unless it is want of memory.
+fn emit_fault<W: Sink>(
+    why: bool,
+    output: &mut W,
+    pending: &mut Vec<u8>,
+    bytes: &[u8],
+    fault: SymbolFault,
+) -> Result<(), SinkFault>
+    ensures { (whole : List ℕ) → IsRefused whole why bytes.now fault
+        → Gives (W.written output.old) (W.written output.new) (W.faults output.old) (W.faults output.new) result
+        (pending.old.items ++ whole) pending.new.items }
+{
+    match fault {
+        SymbolFault::OutOfMemory => Err(SinkFault::OutOfMemory),
+        _ => emit_refused(why, output, pending, bytes, fault.text()),
+    }
+}
+
+/// Gives on bytes that have no text, with the cause where causes are shown.
+fn emit_refused<W: Sink>(
+    why: bool,
+    output: &mut W,
+    pending: &mut Vec<u8>,
+    bytes: &[u8],
+    cause: &str,
+) -> Result<(), SinkFault>
+    ensures { Gives (W.written output.old) (W.written output.new) (W.faults output.old) (W.faults output.new) result
+        (pending.old.items ++ refused why bytes.now cause.now) pending.new.items }
+{
+    if !why {
+        return emit(output, pending, bytes);
+    }
+    emit_both(output, pending, bytes, b"\t")?;
+    emit(output, pending, cause.as_bytes())
+}
