@@ -1,9 +1,12 @@
 //! A demangler of C++ linker names (Itanium ABI).
 #![tactic(auto)]
 
+pub mod ast;
 mod demangle;
 pub mod error;
+mod raw;
 mod reading;
+mod symbol;
 mod telling;
 #[cfg(test)]
 mod tests;
@@ -11,3 +14,5 @@ mod tests;
 pub use demangle::{SymbolFault, demangle_symbol};
 pub use demangle_scope::{DemangleNodeType, DemangleOptions, DemangleWrite, TextSink};
 pub use demangle_text::ParseOptions;
+pub use raw::RawBytes;
+pub use symbol::{BorrowedSymbol, OwnedSymbol, Symbol};
