@@ -38,7 +38,7 @@ impl SymbolFault {
 }
 
 /// What an error of reading is to a name's text.
-fn read_fault(error: Error) -> SymbolFault
+pub(crate) fn read_fault(error: Error) -> SymbolFault
     ensures { result ≡ read_fault error }
 {
     match error {
@@ -48,7 +48,7 @@ fn read_fault(error: Error) -> SymbolFault
 }
 
 /// What an error of printing is to a name's text.
-fn print_fault(error: DemangleError) -> SymbolFault
+pub(crate) fn print_fault(error: DemangleError) -> SymbolFault
     ensures { result ≡ print_fault error }
 {
     match error {
