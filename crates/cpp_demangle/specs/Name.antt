@@ -16,6 +16,7 @@ use Rattle.demangle_grammar.specs.Laws.{from}
 use Rattle.demangle_grammar.specs.Code.{Reply, Found, Refused, Here, here}
 use Rattle.cpp_demangle.specs.Answer.{is_of_name}
 use Rattle.cpp_demangle.specs.Reading.{reading}
+use Rattle.cpp_demangle.specs.Contents.{Contents}
 
 -- At the front of the bytes stands a name of this tree and these components, and so much is left behind it. `name` is
 -- the tree with all that was read of it.
@@ -32,27 +33,29 @@ pub record IsName (bytes left : List ℕ) (tree : Core) (table : Table) : Type 0
   pub refers : Sound [] name
   pub components_are : table ≡ components name
 
--- What a symbol holds: such a name, of which each reference, in the tree and in the table, is to an entry that was
--- inserted earlier, over both lists.
-pub record IsSymbol (bytes : List ℕ) (tree : Core) (table : Table) : Type 0 where
+-- Such a name is what a symbol holds; each reference, in the tree and in the table, is to an entry that was inserted
+-- earlier, over both lists.
+pub record IsSymbol (s : Contents) : Type 0 where
   pub left : List ℕ
-  pub name : IsName bytes left tree table
-  pub sound : IsSoundFor bytes table tree
+  pub name : IsName s.bytes left s.tree s.table
+  pub sound : IsSoundFor s.bytes s.table s.tree
 
 -- ---- what the calls answer
--- The name at the front is read under the limit; so much is left behind it.
-pub record IsRead (limit : ℕ) (bytes left : List ℕ) (tree : Core) (table : Table) : Type 0 where
+-- The symbol is of these bytes; the name at their front was read under the limit, and so much is left behind it.
+pub record IsRead (limit : ℕ) (bytes left : List ℕ) (s : Contents) : Type 0 where
+  pub bytes_are : s.bytes ≡ bytes
   pub end : ℕ
-  pub reads : reading limit bytes ≡ Found tree (here (record { index = end; left = left }) table)
-  pub name : IsName bytes left tree table
+  pub reads : reading limit bytes ≡ Found s.tree (here (record { index = end; left = left }) s.table)
+  pub name : IsName bytes left s.tree s.table
+  pub sound : IsSoundFor bytes s.table s.tree
 
--- why there is no symbol: a call for a front says so by the reading, one for a whole name by the reading in which no
--- bytes may be left
+-- Why there is no symbol: a call for a front says so by the reading, one for a whole name by the reading in which no
+-- bytes may be left.
 abbrev pub IsRefused : Reply → Error → Type 0
 IsRefused reply OutOfMemory = Unit {0}
 IsRefused reply e = (reply ≡ Refused (kind e)) × (is_of_name e ≡ true)
 
--- where there is memory, the reading finds no name, or leaves bytes behind it
+-- Where there is memory, the reading finds no name, or leaves bytes behind it.
 abbrev pub IsNotWhole : Reply → Error → Type 0
 IsNotWhole reply OutOfMemory = Unit {0}
 IsNotWhole reply e = (tree : Core) (end : Here) → reply ≡ Found tree end → end.spot.left ≡ [] → ⊥

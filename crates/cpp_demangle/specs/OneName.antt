@@ -14,6 +14,7 @@ use Rattle.cpp_demangle.specs.declared.demangle.SymbolFault.{SymbolFault}
 use Rattle.cpp_demangle.specs.declared.demangle.SymbolFault.TheVariants as fault
 use Rattle.cpp_demangle.specs.Answer.{answer_of, IsAnswer}
 use Rattle.cpp_demangle.specs.Reading.{reading, whole}
+use Rattle.cpp_demangle.specs.Contents.{contents}
 use Rattle.cpp_demangle.specs.Name.{IsName}
 use Rattle.cpp_demangle.specs.Plain.{IsPlain, is_limit}
 
@@ -31,10 +32,10 @@ pub record HasText (limit : ℕ) (o : Options) (bytes text : List ℕ) : Type 0 
 abbrev pub SharesInvisibly : (limit : ℕ) → Options → List ℕ → Result (String Global) SymbolFault → Type 0
 SharesInvisibly limit o bytes result =
     (tree : Core) (end : Here) → whole (reading limit bytes) ≡ Found tree end →
-    holds_param (expand end.table bytes tree) ≡ false →
-    IsAnswer (answer_of (outcome_of (printed without_table o (expand end.table bytes tree)))) result
+    let alone = expand end.table bytes tree in
+    holds_param alone ≡ false → IsAnswer (answer_of (outcome_of (printed without_table o alone))) result
 
--- the text, unless a limit was met or there was no memory
+-- It is this text, unless a limit was met or there was no memory.
 abbrev pub DeclaresText : List ℕ → Result (String Global) SymbolFault → Type 0
 DeclaresText text (Ok shown) = string_bytes shown ≡ text
 DeclaresText text (Err (fault.Read e)) = ⊥
@@ -45,4 +46,4 @@ DeclaresText text (Err fault.OutOfMemory) = Unit {0}
 abbrev pub DeclaresPlain : (limit : ℕ) → List ℕ → Result (String Global) SymbolFault → Type 0
 DeclaresPlain limit bytes result =
     (tree : Core) (end : Here) (p : Plain) → whole (reading limit bytes) ≡ Found tree end →
-    IsPlain end.table bytes tree p → DeclaresText (declared p) result
+    IsPlain (contents bytes end.table tree) p → DeclaresText (declared p) result

@@ -3,7 +3,6 @@ use Rattle.std.specs.Prelude.{◌≡◌, ℕ, ◌&&◌, ◌||◌, not, Bool, tru
 use Rattle.std.specs.Prelude.{String, string_bytes}
 use Rattle.std.specs.declared.alloc.Global.{Global}
 use Rattle.demangle_core.specs.Core.{Core, Tag}
-use Rattle.demangle_core.specs.Table.{Table}
 use Rattle.demangle_vocab.specs.Builtins.{builtins}
 use Rattle.demangle_printing.specs.World.{World, node}
 use Rattle.demangle_printing.specs.Trees.{with_table}
@@ -11,8 +10,7 @@ use Rattle.demangle_printing.specs.Declarators.{Plain, Plains, builtin, class, c
 use Rattle.demangle_printing.specs.Declarators.{is_function, is_reference, may_be_reference}
 use Rattle.demangle_context.specs.declared.error.DemangleError.{DemangleError}
 use Rattle.demangle_context.specs.declared.error.DemangleError.TheVariants as printing
-use Rattle.cpp_demangle.specs.declared.demangle.SymbolFault.{SymbolFault}
-use Rattle.cpp_demangle.specs.declared.demangle.SymbolFault.TheVariants as fault
+use Rattle.cpp_demangle.specs.Contents.{Contents}
 
 -- No reference to a reference, no const function, no function that answers a function, and words of the table. Nothing
 -- is asked of the names of classes: those that were read are identifiers.
@@ -28,11 +26,11 @@ abbrev mutual
   are_plain none = true
   are_plain (more p ps) = is_plain p && are_plain ps
 
--- the name's tree is such a type
-pub record IsPlain (table : Table) (input : List ℕ) (tree : Core) (p : Plain) : Type 0 where
+-- A symbol's tree is such a type.
+pub record IsPlain (s : Contents) (p : Plain) : Type 0 where
   pub handle : Core
-  pub is_type : (with_table table input).look tree ≡ node Tag.MangledNameTopLevelType (handle ∷ [])
-  pub is : Is (with_table table input) handle p
+  pub is_type : (with_table s.table s.bytes).look s.tree ≡ node Tag.MangledNameTopLevelType (handle ∷ [])
+  pub is : Is (with_table s.table s.bytes) handle p
   pub plain : is_plain p ≡ true
 
 -- ---- answers

@@ -1,6 +1,6 @@
 //! The bytes that a symbol keeps.
 
-/// What holds the bytes of a name: `AsRef<[u8]>` of the original.
+/// What holds the bytes of a name. `AsRef<[u8]>` in the original.
 pub trait RawBytes: Drop {
     ghost use Rattle.std.specs.Prelude.{◌≡◌, ℕ, List};
 
@@ -23,6 +23,6 @@ impl<'a> RawBytes for &'a [u8] {
     ghost bytes = { λ s. s.now };
 
     fn raw_bytes(&self) -> &[u8] {
-        *self
+        self
     }
 }

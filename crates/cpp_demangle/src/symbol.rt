@@ -1,21 +1,10 @@
 //! Symbols: names that were read.
 
 ghost use Rattle.std.specs.Prelude.{◌≡◌, true, false, [], MatchResult, IfOk, IfErr};
-ghost use Rattle.std.specs.Cmp.{on_equiv, on_per, partial_equiv_from_equiv};
 ghost use Rattle.demangle_nodes.specs.TreeNodes.{tree_of_mangled_name};
 ghost use Rattle.demangle_table.specs.TableOf.{table_of};
-ghost use Rattle.demangle_grammar.specs.Expand.{expand};
-ghost use Rattle.demangle_printing.specs.Outcome.{Options, printed};
-ghost use Rattle.demangle_printing.specs.Trees.{without_table};
-ghost use Rattle.demangle_printing.specs.Laws.{told, holds_param};
-ghost use Rattle.demangle_printing.specs.Declarators.{Plain, declared};
-ghost use Rattle.demangle_context.specs.Options.{default_options};
-ghost use Rattle.demangle_text.specs.declared.error.Error.TheVariants.{OutOfMemory};
-ghost use Rattle.cpp_demangle.specs.Reading.{reading, whole};
-ghost use Rattle.cpp_demangle.specs.Name.{IsSymbol, IsRead, IsRefused, IsNotWhole};
-ghost use Rattle.cpp_demangle.specs.Telling.{telling, Tells, IsText};
-ghost use Rattle.cpp_demangle.specs.Plain.{IsPlain, Declares};
-ghost use Rattle.cpp_demangle.specs.Same.{held, same_held, same_held_equiv};
+ghost use Rattle.cpp_demangle.specs.Contents.{contents};
+ghost use Rattle.cpp_demangle.specs.Name.{IsSymbol};
 
 use crate::raw::RawBytes;
 use crate::reading::{read_front, read_whole};
@@ -28,15 +17,15 @@ use demangle_text::{ParseOptions, Result};
 use demangle_tree::{MangledName, SubstitutionTable};
 use std::alloc::Global;
 
-/// A name that was read: its bytes, its tree and the table of its components. What it holds is what the ordered reading
-/// without a limit gives for its bytes, and is sound: each reference is to an entry that was inserted earlier. The
-/// original's type of this name.
+/// A name that was read: its bytes, the table of its components, and its tree. Table and tree are always what the
+/// ordered reading without a limit gives for the bytes, and sound: each reference is to an entry that was inserted
+/// earlier. The original's type of this name.
 #[derive(Debug)]
 pub struct Symbol<T: RawBytes> {
     raw: T,
     substitutions: SubstitutionTable,
     parsed: MangledName,
-    pub ghost is: { IsSymbol (T.bytes raw) (tree_of_mangled_name parsed) (table_of substitutions) },
+    pub ghost is: { ∥ IsSymbol (contents (T.bytes raw) (table_of substitutions) (tree_of_mangled_name parsed)) ∥₁ },
 }
 
 /// A symbol that owns its bytes.
@@ -46,10 +35,19 @@ pub type OwnedSymbol = Symbol<Vec<u8>>;
 pub type BorrowedSymbol<'a> = Symbol<&'a [u8]>;
 
 impl<T: RawBytes> Symbol<T> {
+    ghost use Rattle.demangle_printing.specs.Laws.{holds_param};
+    ghost use Rattle.demangle_printing.specs.Declarators.{Plain, declared};
+    ghost use Rattle.demangle_context.specs.Options.{default_options};
+    ghost use Rattle.cpp_demangle.specs.Reading.{reading, whole};
+    ghost use Rattle.cpp_demangle.specs.Name.{IsRead, IsRefused, IsNotWhole};
+    ghost use Rattle.cpp_demangle.specs.Telling.{Tells, IsText};
+    ghost use Rattle.cpp_demangle.specs.Plain.{IsPlain, Declares};
+    ghost use Rattle.cpp_demangle.specs.Contents.{expanded, telling_of, telling_unshared};
+    ghost use Rattle.cpp_demangle.specs.SymbolOf.{contents_of};
+
     /// The symbol of a whole name, read under the options by default. Errors as those of `new_with_options`.
     pub fn new(alloc: Global, raw: T) -> Result<Symbol<T>>
-        ensures read { MatchResult result
-            (λ s. IsRead 96 (T.bytes raw) [] (tree_of_mangled_name s.parsed) (table_of s.substitutions))
+        ensures read { MatchResult result (λ s. IsRead 96 (T.bytes raw) [] (contents_of s))
             (IsRefused (whole (reading 96 (T.bytes raw)))) }
         ensures raw { IfOk result (λ s. s.raw ≡ raw) }
         ensures as_with_tail { IfErr result (IsNotWhole (reading 96 (T.bytes raw))) }
@@ -61,8 +59,7 @@ impl<T: RawBytes> Symbol<T> {
     /// where the ordered reading is refused so, `UnexpectedText` also where bytes are left behind the name, and
     /// `OutOfMemory` where there is no memory. So it is Ok where `with_tail_and_options` leaves nothing.
     pub fn new_with_options(alloc: Global, raw: T, options: &ParseOptions) -> Result<Symbol<T>>
-        ensures read { MatchResult result
-            (λ s. IsRead options.now (T.bytes raw) [] (tree_of_mangled_name s.parsed) (table_of s.substitutions))
+        ensures read { MatchResult result (λ s. IsRead options.now (T.bytes raw) [] (contents_of s))
             (IsRefused (whole (reading options.now (T.bytes raw)))) }
         ensures raw { IfOk result (λ s. s.raw ≡ raw) }
         ensures as_with_tail { IfErr result (IsNotWhole (reading options.now (T.bytes raw))) }
@@ -77,7 +74,7 @@ impl<T: RawBytes> Symbol<T> {
         }
     }
 
-    /// The bytes.
+    /// What the symbol was made of.
     pub fn raw(&self) -> &T
         ensures { result.now ≡ self.now.raw }
     {
@@ -86,27 +83,24 @@ impl<T: RawBytes> Symbol<T> {
 
     /// The components of the name, which its tree refers to.
     pub fn substitutions(&self) -> &SubstitutionTable
-        ensures { result.now ≡ self.now.substitutions }
+        ensures { table_of result.now ≡ (contents_of self.now).table }
     {
         &self.substitutions
     }
 
     /// The tree of the name.
     pub fn parsed(&self) -> &MangledName
-        ensures { result.now ≡ self.now.parsed }
+        ensures { tree_of_mangled_name result.now ≡ (contents_of self.now).tree }
     {
         &self.parsed
     }
 
     /// The text of the name, printed under the options by default. Errors as those of `demangle_with_options`.
     pub fn demangle(&self, alloc: Global) -> std::result::Result<String, DemangleError>
-        ensures text { IsText (telling (table_of self.now.substitutions) (T.bytes self.now.raw) default_options
-            (tree_of_mangled_name self.now.parsed)) result }
-        ensures shared { let tree = expand (table_of self.now.substitutions) (T.bytes self.now.raw)
-            (tree_of_mangled_name self.now.parsed) in
-            holds_param tree ≡ false → IsText (told (printed without_table default_options tree)) result }
-        ensures declared { (p : Plain) → IsPlain (table_of self.now.substitutions) (T.bytes self.now.raw)
-            (tree_of_mangled_name self.now.parsed) p → Declares (declared p) result }
+        ensures text { IsText (telling_of default_options (contents_of self.now)) result }
+        ensures shared { holds_param (expanded (contents_of self.now)) ≡ false
+            → IsText (telling_unshared default_options (contents_of self.now)) result }
+        ensures declared { (p : Plain) → IsPlain (contents_of self.now) p → Declares (declared p) result }
     {
         self.demangle_with_options(alloc, &DemangleOptions::default())
     }
@@ -118,13 +112,10 @@ impl<T: RawBytes> Symbol<T> {
         alloc: Global,
         options: &DemangleOptions,
     ) -> std::result::Result<String, DemangleError>
-        ensures text { IsText (telling (table_of self.now.substitutions) (T.bytes self.now.raw) options.now
-            (tree_of_mangled_name self.now.parsed)) result }
-        ensures shared { let tree = expand (table_of self.now.substitutions) (T.bytes self.now.raw)
-            (tree_of_mangled_name self.now.parsed) in
-            holds_param tree ≡ false → IsText (told (printed without_table options.now tree)) result }
-        ensures declared { (p : Plain) → IsPlain (table_of self.now.substitutions) (T.bytes self.now.raw)
-            (tree_of_mangled_name self.now.parsed) p → Declares (declared p) result }
+        ensures text { IsText (telling_of options.now (contents_of self.now)) result }
+        ensures shared { holds_param (expanded (contents_of self.now)) ≡ false
+            → IsText (telling_unshared options.now (contents_of self.now)) result }
+        ensures declared { (p : Plain) → IsPlain (contents_of self.now) p → Declares (declared p) result }
     {
         text(
             alloc,
@@ -146,12 +137,10 @@ impl<T: RawBytes> Symbol<T> {
         options: &DemangleOptions,
     ) -> std::result::Result<(), DemangleError>
         ensures told { Tells (W.seen out.old) (W.seen out.new) options.now.limit
-            (telling (table_of self.now.substitutions) (T.bytes self.now.raw) options.now
-            (tree_of_mangled_name self.now.parsed)) result }
-        ensures shared { let tree = expand (table_of self.now.substitutions) (T.bytes self.now.raw)
-            (tree_of_mangled_name self.now.parsed) in
-            holds_param tree ≡ false → Tells (W.seen out.old) (W.seen out.new) options.now.limit
-            (told (printed without_table options.now tree)) result }
+            (telling_of options.now (contents_of self.now)) result }
+        ensures shared { holds_param (expanded (contents_of self.now)) ≡ false
+            → Tells (W.seen out.old) (W.seen out.new) options.now.limit
+            (telling_unshared options.now (contents_of self.now)) result }
     {
         tell(
             alloc,
@@ -162,16 +151,6 @@ impl<T: RawBytes> Symbol<T> {
             out,
         )
     }
-
-    /// Equal symbols have one tree and one table, so that each call answers the same of both. Nothing runs: this is a
-    /// law, and its contract is the statement.
-    pub fn equal_symbols_agree(&self, other: &Symbol<T>)
-        ensures { let a = held (T.bytes self.now.raw) (table_of self.now.substitutions)
-            (tree_of_mangled_name self.now.parsed) in
-            let b = held (T.bytes other.now.raw) (table_of other.now.substitutions)
-            (tree_of_mangled_name other.now.parsed) in
-            same_held a b ≡ true → a ≡ b }
-    {}
 }
 
 /// A copy of a tree and of its table.
@@ -182,7 +161,7 @@ fn copies(
 ) -> Result<(MangledName, SubstitutionTable)>
     ensures copy { IfOk result (λ x. (tree_of_mangled_name x.0 ≡ tree_of_mangled_name name.now)
         × (table_of x.1 ≡ table_of table.now)) }
-    ensures refused { IfErr result (λ e. e ≡ OutOfMemory) }
+    ensures refused { IfErr result (λ e. e ≡ Error.OutOfMemory) }
 {
     match name.try_clone(alloc) {
         Ok(parsed) => match table.try_clone(alloc) {
@@ -197,13 +176,16 @@ fn copies(
 }
 
 impl<'a> Symbol<&'a [u8]> {
+    ghost use Rattle.cpp_demangle.specs.Reading.{reading};
+    ghost use Rattle.cpp_demangle.specs.Name.{IsRead, IsRefused};
+    ghost use Rattle.cpp_demangle.specs.Contents.{same_contents};
+    ghost use Rattle.cpp_demangle.specs.SymbolOf.{contents_of};
+
     /// The symbol of the name at the front of the input, read under the options by default, and what is left behind
     /// it. Errors as those of `with_tail_and_options`.
     pub fn with_tail(alloc: Global, input: &'a [u8]) -> Result<(BorrowedSymbol<'a>, &'a [u8])>
-        ensures read { MatchResult result
-            (λ x. IsRead 96 input.entry.now x.1.now (tree_of_mangled_name x.0.parsed) (table_of x.0.substitutions))
+        ensures { MatchResult result (λ x. IsRead 96 input.entry.now x.1.now (contents_of x.0))
             (IsRefused (reading 96 input.entry.now)) }
-        ensures raw { IfOk result (λ x. x.0.raw.now ≡ input.entry.now) }
     {
         Symbol::with_tail_and_options(alloc, input, &ParseOptions::default())
     }
@@ -216,11 +198,8 @@ impl<'a> Symbol<&'a [u8]> {
         input: &'a [u8],
         options: &ParseOptions,
     ) -> Result<(BorrowedSymbol<'a>, &'a [u8])>
-        ensures read { MatchResult result
-            (λ x. IsRead options.now input.entry.now x.1.now (tree_of_mangled_name x.0.parsed)
-            (table_of x.0.substitutions))
+        ensures { MatchResult result (λ x. IsRead options.now input.entry.now x.1.now (contents_of x.0))
             (IsRefused (reading options.now input.entry.now)) }
-        ensures raw { IfOk result (λ x. x.0.raw.now ≡ input.entry.now) }
     {
         match read_front(alloc, input, options) {
             Ok((parsed, substitutions, rest)) => Ok((
@@ -237,9 +216,9 @@ impl<'a> Symbol<&'a [u8]> {
 
     /// A copy, equal to the symbol. `OutOfMemory` is the one refusal. `Clone` of the original.
     pub fn try_clone(&self, alloc: Global) -> Result<BorrowedSymbol<'a>>
-        ensures copy { IfOk result (λ s. held s.raw.now (table_of s.substitutions) (tree_of_mangled_name s.parsed)
-            ≡ held self.now.raw.now (table_of self.now.substitutions) (tree_of_mangled_name self.now.parsed)) }
-        ensures refused { IfErr result (λ e. e ≡ OutOfMemory) }
+        ensures copy { IfOk result (λ s. contents_of s ≡ contents_of self.now) }
+        ensures equal { IfOk result (λ s. same_contents (contents_of s) (contents_of self.now) ≡ true) }
+        ensures refused { IfErr result (λ e. e ≡ Error.OutOfMemory) }
     {
         let (parsed, substitutions) = copies(alloc, &self.parsed, &self.substitutions)?;
         Ok(Symbol {
@@ -251,11 +230,14 @@ impl<'a> Symbol<&'a [u8]> {
 }
 
 impl Symbol<Vec<u8>> {
+    ghost use Rattle.cpp_demangle.specs.Contents.{same_contents};
+    ghost use Rattle.cpp_demangle.specs.SymbolOf.{contents_of};
+
     /// A copy, equal to the symbol. `OutOfMemory` is the one refusal. `Clone` of the original.
     pub fn try_clone(&self, alloc: Global) -> Result<OwnedSymbol>
-        ensures copy { IfOk result (λ s. held s.raw.items (table_of s.substitutions) (tree_of_mangled_name s.parsed)
-            ≡ held self.now.raw.items (table_of self.now.substitutions) (tree_of_mangled_name self.now.parsed)) }
-        ensures refused { IfErr result (λ e. e ≡ OutOfMemory) }
+        ensures copy { IfOk result (λ s. contents_of s ≡ contents_of self.now) }
+        ensures equal { IfOk result (λ s. same_contents (contents_of s) (contents_of self.now) ≡ true) }
+        ensures refused { IfErr result (λ e. e ≡ Error.OutOfMemory) }
     {
         let raw = self.raw.to_vec(alloc)?;
         let (parsed, substitutions) = copies(alloc, &self.parsed, &self.substitutions)?;
@@ -281,15 +263,21 @@ impl<T: RawBytes> Drop for Symbol<T> {
 
 /// Equal bytes, tables and trees.
 impl<T: RawBytes> PartialEq for Symbol<T> {
-    ghost eq = { λ a b. same_held
-        (held (T.bytes a.raw) (table_of a.substitutions) (tree_of_mangled_name a.parsed))
-        (held (T.bytes b.raw) (table_of b.substitutions) (tree_of_mangled_name b.parsed)) };
+    ghost use Rattle.std.specs.Cmp.{on_per, partial_equiv_from_equiv};
+    ghost use Rattle.demangle_printing.specs.Outcome.{Options};
+    ghost use Rattle.cpp_demangle.specs.Contents.{same_contents, same_contents_equiv, telling_of};
+    ghost use Rattle.cpp_demangle.specs.SymbolOf.{contents_of};
 
-    ghost laws = { on_per
-        (λ a. held (T.bytes a.raw) (table_of a.substitutions) (tree_of_mangled_name a.parsed))
-        (partial_equiv_from_equiv same_held_equiv) };
+    ghost eq = { λ a b. same_contents (contents_of a) (contents_of b) };
 
-    fn eq(&self, other: &Symbol<T>) -> bool {
+    ghost laws = { on_per contents_of (partial_equiv_from_equiv same_contents_equiv) };
+
+    /// Of equal symbols the printing tells the same, so they have equal texts or faults under equal options.
+    fn eq(&self, other: &Symbol<T>) -> bool
+        ensures same { result ≡ same_contents (contents_of self.now) (contents_of other.now) }
+        ensures alike { result ≡ true → (o : Options)
+            → telling_of o (contents_of self.now) ≡ telling_of o (contents_of other.now) }
+    {
         self.raw.raw_bytes() == other.raw.raw_bytes()
             && self.substitutions == other.substitutions
             && self.parsed == other.parsed
@@ -297,7 +285,9 @@ impl<T: RawBytes> PartialEq for Symbol<T> {
 }
 
 impl<T: RawBytes> Eq for Symbol<T> {
-    ghost laws = { on_equiv
-        (λ a. held (T.bytes a.raw) (table_of a.substitutions) (tree_of_mangled_name a.parsed))
-        same_held_equiv };
+    ghost use Rattle.std.specs.Cmp.{on_equiv};
+    ghost use Rattle.cpp_demangle.specs.Contents.{same_contents_equiv};
+    ghost use Rattle.cpp_demangle.specs.SymbolOf.{contents_of};
+
+    ghost laws = { on_equiv contents_of same_contents_equiv };
 }
