@@ -4,5 +4,7 @@ pub mod Outcomes
 pub mod Wholes
 pub mod Names
 pub mod Plains
-pub mod Clauses
+pub mod Tellings
+pub mod OneNames
+pub mod NamesTold
 pub mod Symbols

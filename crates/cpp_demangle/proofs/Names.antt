@@ -9,12 +9,14 @@ use Rattle.demangle_grammar.specs.Reading.{State, Answer, Yes, No, Deep, read_fr
 use Rattle.demangle_grammar.specs.Code.{Here, Reply, Found, Refused}
 use Rattle.demangle_grammar.specs.Seen.{seen, replied}
 use Rattle.demangle_grammar.specs.Laws.{from, cored}
+use Rattle.demangle_grammar.specs.Sound.{IsSoundFor}
 use Rattle.demangle_grammar.proofs.CodeLaws.{of_trees, here_in}
 use Rattle.demangle_grammar.proofs.Fit.{is_fit}
 use Rattle.demangle_grammar.proofs.Readings.{spelled, gone_on, added, sound}
 use Rattle.demangle_grammar.proofs.Limits.{has_no_limit}
 use Rattle.demangle_grammar.proofs.SoundFor.{name_is_sound}
 use Rattle.cpp_demangle.specs.Reading.{reading}
+use Rattle.cpp_demangle.specs.Contents.{contents}
 use Rattle.cpp_demangle.specs.Name.{IsName, IsSymbol}
 
 abbrev core_in : Core → Reply → Core
@@ -59,12 +61,13 @@ is_name limit bytes x h e =
     by_answer bytes (limit - 1) x h (read_from trees (limit - 1) Row.mangled_name false (from bytes) nil) refl
     (of_trees (limit - 1) Row.mangled_name false (seen (from bytes)) [] ∙ e)
 
--- and a symbol can hold it
+-- and it is sound
+pub is_sound : (limit : ℕ) (bytes : List ℕ) (x : Core) (h : Here) → reading limit bytes ≡ Found x h →
+    IsSoundFor bytes h.table x
+is_sound limit bytes x h e = name_is_sound bytes (limit - 1) Row.mangled_name false h x e
+
+-- so a symbol can hold it
 pub is_symbol : (limit : ℕ) (bytes : List ℕ) (x : Core) (h : Here) → reading limit bytes ≡ Found x h →
-    IsSymbol bytes x h.table
+    IsSymbol (contents bytes h.table x)
 is_symbol limit bytes x h e =
-    record {
-      left = h.spot.left;
-      name = is_name limit bytes x h e;
-      sound = name_is_sound bytes (limit - 1) Row.mangled_name false h x e;
-    }
+    record { left = h.spot.left; name = is_name limit bytes x h e; sound = is_sound limit bytes x h e }

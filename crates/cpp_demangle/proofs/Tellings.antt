@@ -19,10 +19,11 @@ use Rattle.demangle_printing.specs.Declarators.{Plain, declared, IsDeclaredOrLim
 use Rattle.demangle_printing.specs.Declarators as declarators
 use Rattle.demangle_printing.proofs.Shared.{sharing_is_invisible}
 use Rattle.demangle_printing.proofs.Declared.{shows_declared}
+use Rattle.demangle_meets.specs.Seen.{Seen}
 use Rattle.demangle_context.specs.TroubleOf.{error_at}
 use Rattle.demangle_context.specs.declared.error.DemangleError.{DemangleError}
 use Rattle.demangle_context.specs.declared.error.DemangleError.TheVariants as printing
-use Rattle.cpp_demangle.specs.Telling.{Telling, Meets, IsText}
+use Rattle.cpp_demangle.specs.Telling.{Telling, Tells, Meets, IsText}
 use Rattle.cpp_demangle.specs.Contents.{Contents, expanded, telling_of, telling_unshared}
 use Rattle.cpp_demangle.specs.Name.{IsSymbol}
 use Rattle.cpp_demangle.specs.Plain.{IsPlain, is_limit, Declares}
@@ -97,14 +98,23 @@ telling_code =
     coded× (coded_list (code_by (ℕ × ℕ) (coded× coded_ℕ coded_ℕ) event_number event_at event_back))
     (coded_option (code_by ℕ coded_ℕ fault_number fault_at fault_back))
 
--- what holds of each symbol of these contents holds of these contents
+-- what follows from a fact follows where there is a proof of it
 pub same_telling : {A : Type 0} {t u : Telling} → ∥ A ∥₁ → (A → t ≡ u) → t ≡ u
 same_telling {A} {t} {u} a f = ∥∥₁_elim a (Coded-set telling_code t u) f
 
 -- ---- sharing
-pub shared_alike : (s : Contents) (o : Options) → ∥ IsSymbol s ∥₁ → holds_param (expanded s) ≡ false →
+shared_alike : (s : Contents) (o : Options) → ∥ IsSymbol s ∥₁ → holds_param (expanded s) ≡ false →
     telling_of o s ≡ telling_unshared o s
 shared_alike s o is p = same_telling is (λ x. sharing_is_invisible s.table s.bytes s.tree o x.sound p)
+
+pub text_shared : (s : Contents) (o : Options) (r : Result (String Global) DemangleError) → ∥ IsSymbol s ∥₁ →
+    IsText (telling_of o s) r → holds_param (expanded s) ≡ false → IsText (telling_unshared o s) r
+text_shared s o r is d p = subst (λ t. IsText t r) (shared_alike s o is p) d
+
+pub tells_shared : (s : Contents) (o : Options) {old new : Seen} {limit : ℕ} {r : Result (Unit {0}) DemangleError} →
+    ∥ IsSymbol s ∥₁ → Tells old new limit (telling_of o s) r → holds_param (expanded s) ≡ false →
+    Tells old new limit (telling_unshared o s) r
+tells_shared s o {old} {new} {limit} {r} is d p = subst (λ t. Tells old new limit t r) (shared_alike s o is p) d
 
 -- ---- plain types
 pub shows : (o : Options) (s : Contents) (p : Plain) → IsSoundFor s.bytes s.table s.tree → IsPlain s p →

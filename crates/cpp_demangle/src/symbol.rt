@@ -3,6 +3,7 @@
 ghost use Rattle.std.specs.Prelude.{◌≡◌, true, false, [], MatchResult, IfOk, IfErr};
 ghost use Rattle.demangle_nodes.specs.TreeNodes.{tree_of_mangled_name};
 ghost use Rattle.demangle_table.specs.TableOf.{table_of};
+ghost use Rattle.demangle_text.specs.declared.error.Error.TheVariants.{OutOfMemory};
 ghost use Rattle.cpp_demangle.specs.Contents.{contents};
 ghost use Rattle.cpp_demangle.specs.Name.{IsSymbol};
 
@@ -161,7 +162,7 @@ fn copies(
 ) -> Result<(MangledName, SubstitutionTable)>
     ensures copy { IfOk result (λ x. (tree_of_mangled_name x.0 ≡ tree_of_mangled_name name.now)
         × (table_of x.1 ≡ table_of table.now)) }
-    ensures refused { IfErr result (λ e. e ≡ Error.OutOfMemory) }
+    ensures refused { IfErr result (λ e. e ≡ OutOfMemory) }
 {
     match name.try_clone(alloc) {
         Ok(parsed) => match table.try_clone(alloc) {
@@ -218,7 +219,7 @@ impl<'a> Symbol<&'a [u8]> {
     pub fn try_clone(&self, alloc: Global) -> Result<BorrowedSymbol<'a>>
         ensures copy { IfOk result (λ s. contents_of s ≡ contents_of self.now) }
         ensures equal { IfOk result (λ s. same_contents (contents_of s) (contents_of self.now) ≡ true) }
-        ensures refused { IfErr result (λ e. e ≡ Error.OutOfMemory) }
+        ensures refused { IfErr result (λ e. e ≡ OutOfMemory) }
     {
         let (parsed, substitutions) = copies(alloc, &self.parsed, &self.substitutions)?;
         Ok(Symbol {
@@ -237,7 +238,7 @@ impl Symbol<Vec<u8>> {
     pub fn try_clone(&self, alloc: Global) -> Result<OwnedSymbol>
         ensures copy { IfOk result (λ s. contents_of s ≡ contents_of self.now) }
         ensures equal { IfOk result (λ s. same_contents (contents_of s) (contents_of self.now) ≡ true) }
-        ensures refused { IfErr result (λ e. e ≡ Error.OutOfMemory) }
+        ensures refused { IfErr result (λ e. e ≡ OutOfMemory) }
     {
         let raw = self.raw.to_vec(alloc)?;
         let (parsed, substitutions) = copies(alloc, &self.parsed, &self.substitutions)?;

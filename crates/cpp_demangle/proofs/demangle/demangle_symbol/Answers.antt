@@ -1,4 +1,4 @@
-use Rattle.cpp_demangle.proofs.Clauses.{name_named, name_shared, name_declares}
+use Rattle.cpp_demangle.proofs.OneNames.{name_named, name_shared, name_declares}
 use Rattle.cpp_demangle.proofs.demangle.demangle_symbol.Goals as goal
 
 pub returns-clause-named : goal.returns-clause-named
