@@ -1,11 +1,11 @@
 -- A name that was read is the tree that the ordered reading without a limit gives.
 use Rattle.std.specs.Prelude.{◌≡◌, ◌≢◌, ℕ, ◌+◌, ◌-◌, false, List, [], ◌++◌, length}
-use Rattle.std.proofs.Common.{refl, sym, subst, ap, ◌∙◌, arith}
+use Rattle.std.proofs.Common.{refl, sym, ap, ◌∙◌, arith}
 use Rattle.demangle_core.specs.Core.{Core}
-use Rattle.demangle_core.specs.Table.{Table, empty_table}
+use Rattle.demangle_core.specs.Table.{empty_table}
 use Rattle.demangle_grammar.specs.Rule.{Row}
-use Rattle.demangle_grammar.specs.Tree.{trees, Tree, nil, core, spell}
-use Rattle.demangle_grammar.specs.Reading.{State, Answer, Yes, No, Deep, read_from, read_all}
+use Rattle.demangle_grammar.specs.Tree.{trees, Tree, nil, spell}
+use Rattle.demangle_grammar.specs.Reading.{Answer, Yes, No, Deep, read_from, read_all}
 use Rattle.demangle_grammar.specs.Code.{Here, Reply, Found, Refused}
 use Rattle.demangle_grammar.specs.Seen.{seen, replied}
 use Rattle.demangle_grammar.specs.Laws.{from, cored}
@@ -33,7 +33,7 @@ module _ (bytes : List ℕ) (left : ℕ) (x : Core) (h : Here) where
       replied (cored a) ≡ Found x h → IsName bytes h.spot.left x h.table
   by_answer (Yes t tree) p q =
       let at : t.at ≡ length (spell tree) =
-          sym (gone_on left Row.mangled_name false (from bytes) t tree p) ∙ nothing_before (length (spell tree)) in
+      sym (gone_on left Row.mangled_name false (from bytes) t tree p) ∙ nothing_before (length (spell tree)) in
       let rest : t.rest ≡ h.spot.left = ap (λ m. (here_in h m).spot.left) q in
       let entries : t.entries ≡ h.table = ap (λ m. (here_in h m).table) q in
       record {

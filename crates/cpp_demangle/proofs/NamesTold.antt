@@ -1,5 +1,5 @@
 -- From what the printing of a name's tree tells to what a listener is told of a name.
-use Rattle.std.specs.Prelude.{◌≡◌, ℕ, true, List, [], Option, Ok, Err}
+use Rattle.std.specs.Prelude.{◌≡◌, ℕ, true, List, [], Ok, Err}
 use Rattle.std.proofs.Common.{refl, subst, ap, ◌∙◌, inl, inr}
 use Rattle.demangle_core.specs.Core.{Core}
 use Rattle.demangle_core.specs.Table.{Table}
@@ -12,7 +12,6 @@ use Rattle.demangle_meets.specs.Seen.{Seen}
 use Rattle.demangle_meets.proofs.Heard.{told_nothing}
 use Rattle.demangle_context.specs.declared.error.DemangleError.{DemangleError}
 use Rattle.demangle_context.specs.declared.error.DemangleError.TheVariants as printing
-use Rattle.cpp_demangle.specs.declared.demangle.SymbolFault.TheVariants as fault
 use Rattle.cpp_demangle.specs.Answer.{answer_of, read_fault, print_fault, is_of_tree}
 use Rattle.cpp_demangle.specs.Reading.{reading as name_reading, whole}
 use Rattle.cpp_demangle.specs.Found.{IsFound}

@@ -1,5 +1,5 @@
 -- What else follows from the outcome of a name: its tree, sharing, and plain types.
-use Rattle.std.specs.Prelude.{◌≡◌, ℕ, true, List, [], Option, Some, None, Result, Ok, Err, String, string_bytes, IfOk}
+use Rattle.std.specs.Prelude.{◌≡◌, ℕ, true, List, [], Some, None, Result, Ok, Err, String, string_bytes, IfOk}
 use Rattle.std.specs.declared.alloc.Global.{Global}
 use Rattle.std.proofs.Common.{refl, sym, subst, ap, ◌∙◌}
 use Rattle.demangle_core.specs.Core.{Core}
@@ -9,8 +9,8 @@ use Rattle.demangle_grammar.specs.Expand.{expand}
 use Rattle.demangle_grammar.specs.Sound.{IsSoundFor}
 use Rattle.demangle_printing.specs.State.{Answer, yes, no}
 use Rattle.demangle_printing.specs.Trees.{with_table, without_table}
-use Rattle.demangle_printing.specs.Outcome.{Options, Outcome, Shown, NotRead, NotPrinted, printed, outcome_of, when_read}
-use Rattle.demangle_printing.specs.Outcome.{after_reading, outcome, text_of}
+use Rattle.demangle_printing.specs.Outcome.{Options, Outcome, Shown, NotRead, NotPrinted, printed, outcome_of}
+use Rattle.demangle_printing.specs.Outcome.{when_read, after_reading, outcome, text_of}
 use Rattle.demangle_printing.specs.Laws.{told}
 use Rattle.demangle_printing.specs.Declarators.{declared, IsDeclaredOrLimited}
 use Rattle.demangle_printing.proofs.Shared.{sharing_is_invisible}
@@ -31,7 +31,8 @@ use Rattle.cpp_demangle.proofs.Tellings.{shows, limit_error}
 
 -- ---- the whole reading
 outcome_whole : (limit : ℕ) (o : Options) (bytes : List ℕ) (x : Core) (h : Here) →
-    whole (reading limit bytes) ≡ Found x h → outcome limit o bytes ≡ outcome_of (printed (with_table h.table bytes) o x)
+    whole (reading limit bytes) ≡ Found x h →
+    outcome limit o bytes ≡ outcome_of (printed (with_table h.table bytes) o x)
 outcome_whole limit o bytes x h e =
     outcome_after limit o bytes ∙ ap (after_reading bytes o) e
     ∙ ap (λ l. when_read bytes o l x h.table) (unwhole (reading limit bytes) x h e).1

@@ -1,6 +1,6 @@
 -- A plain type that was read is one as the law on declarators asks for: the names of its classes are identifiers.
-use Rattle.std.specs.Prelude.{◌≡◌, ℕ, zero, suc, ◌+◌, ◌/◌, ◌%◌, ◌<◌, ◌≤◌, ◌&&◌, ◌||◌, ◌==◌, not, Bool, true, false, cond, List, []}
-use Rattle.std.specs.Prelude.{◌∷◌, ◌++◌, length, nat_lt, codes, Option, Some, None, slice_get, encode_utf8_all}
+use Rattle.std.specs.Prelude.{◌≡◌, ℕ, zero, suc, ◌+◌, ◌/◌, ◌%◌, ◌<◌, ◌≤◌, ◌&&◌, ◌||◌, ◌==◌, not, Bool, true, false}
+use Rattle.std.specs.Prelude.{List, [], ◌∷◌, ◌++◌, length, codes, Option, Some, None, slice_get, encode_utf8_all}
 use Rattle.std.specs.Prelude.{if◌then◌else◌}
 use Rattle.std.specs.Str.{is_utf8}
 use Rattle.std.specs.Char.{encode_utf8}
@@ -13,10 +13,10 @@ use Rattle.demangle_text.specs.Characters.{is_identifier_byte, is_identifier_cha
 use Rattle.demangle_text.proofs.Identifiers.{chars_are_text}
 use Rattle.demangle_vocab.specs.WordTable.{Entry, text_at}
 use Rattle.demangle_vocab.specs.Builtins.{builtins}
-use Rattle.demangle_core.specs.Core.{Core, Tag, Which, N, U, end, node, place, number, flag, chosen, ref, mark, same_which}
+use Rattle.demangle_core.specs.Core.{Core, Tag, Which, end, node, place, number, flag, chosen, ref, mark, same_which}
 use Rattle.demangle_core.specs.Table.{Table, more_if, listed, entry_at}
 use Rattle.demangle_grammar.specs.Fits.{IsSome}
-use Rattle.demangle_grammar.specs.Sound.{bytes_of, HasPlaces, EachEntry, IsSoundTable}
+use Rattle.demangle_grammar.specs.Sound.{HasPlaces, EachEntry}
 use Rattle.demangle_printing.specs.World.{World, Seen}
 use Rattle.demangle_printing.specs.World as seen
 use Rattle.demangle_printing.specs.State.{last_of}
@@ -76,13 +76,14 @@ encode_four c low =
 -- the last of them
 last_high : (c : ℕ) (l : Option ℕ) → 128 ≤ c → is_plain_end (last_of l (encode_utf8 c)) ≡ true
 last_high c l h = elim (cases_lt c 2048) [
-  | inl two ↦ subst (λ bs. is_plain_end (last_of l bs) ≡ true) (sym (encode_two c h two)) (high_plain (128 + c % 64) (omega arith))
+  | inl two ↦ subst (λ bs. is_plain_end (last_of l bs) ≡ true) (sym (encode_two c h two))
+      (high_plain (128 + c % 64) (omega arith))
   | inr wide ↦ elim (cases_lt c 65536) [
-      | inl three ↦ subst (λ bs. is_plain_end (last_of l bs) ≡ true) (sym (encode_three c wide three))
-          (high_plain (128 + c % 64) (omega arith))
-      | inr four ↦ subst (λ bs. is_plain_end (last_of l bs) ≡ true) (sym (encode_four c four))
-          (high_plain (128 + c % 64) (omega arith))
-    ]
+    | inl three ↦ subst (λ bs. is_plain_end (last_of l bs) ≡ true) (sym (encode_three c wide three))
+        (high_plain (128 + c % 64) (omega arith))
+    | inr four ↦ subst (λ bs. is_plain_end (last_of l bs) ≡ true) (sym (encode_four c four))
+        (high_plain (128 + c % 64) (omega arith))
+  ]
 ]
 
 last_char : (c : ℕ) (l : Option ℕ) → is_identifier_char c ≡ true → is_plain_end (last_of l (encode_utf8 c)) ≡ true
@@ -252,8 +253,8 @@ module _ (t : Table) (input : List ℕ) (sound : EachEntry (HasPlaces input Tag.
     types u x (class name) h i e =
         let y = parts_placed u Tag.SubstitutableTypeNode x (i.0 ∷ []) h i.2 in
         let z = chain_placed Tag.SubstitutableTypeNode
-            (Tag.TypeNodeClassEnum ∷ Tag.ClassEnumTypeNamed ∷ Tag.NameUnscoped ∷ Tag.UnscopedNameUnqualified ∷ [])
-            i.0 i.1 y.0 i.3 in
+        (Tag.TypeNodeClassEnum ∷ Tag.ClassEnumTypeNamed ∷ Tag.NameUnscoped ∷ Tag.UnscopedNameUnqualified ∷ [])
+        i.0 i.1 y.0 i.3 in
         let s = parts_placed Tag.UnscopedNameUnqualified Tag.UnqualifiedNameSource i.1 (i.4.0 ∷ i.4.1 ∷ []) z i.4.4 in
         let n = chain_placed Tag.UnqualifiedNameSource (Tag.SourceName ∷ Tag.Identifier ∷ []) i.4.0 i.4.2 s.0 i.4.5 in
         class_type name (subst IsName i.4.6 (look_name i.4.2 n))
@@ -273,7 +274,7 @@ module _ (t : Table) (input : List ℕ) (sound : EachEntry (HasPlaces input Tag.
         let y = parts_placed u Tag.SubstitutableTypeNode x (i.0 ∷ []) h i.6 in
         let f = parts_placed Tag.SubstitutableTypeNode Tag.TypeNodeFunction i.0 (i.1 ∷ []) y.0 i.7 in
         let a = parts_placed Tag.TypeNodeFunction Tag.FunctionType i.1
-            (i.8.0 ∷ i.8.1 ∷ i.8.2 ∷ i.8.3 ∷ i.2 ∷ i.8.4 ∷ []) f.0 i.8.5 in
+        (i.8.0 ∷ i.8.1 ∷ i.8.2 ∷ i.8.3 ∷ i.2 ∷ i.8.4 ∷ []) f.0 i.8.5 in
         let l = parts_placed Tag.FunctionType Tag.BareFunctionType i.2 (i.3 ∷ []) a.1.1.1.1.0 i.9 in
         let k = parts_placed Tag.BareFunctionType Tag.Several i.3 (i.4 ∷ i.5) l.0 i.10 in
         and_from (not (is_function r)) (is_type r && are_types ps) b.0

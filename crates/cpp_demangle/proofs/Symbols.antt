@@ -2,7 +2,6 @@
 use Rattle.std.specs.Prelude.{◌≡◌, ℕ, true, ◌&&◌, List, [], bytes_eq, Err}
 use Rattle.std.specs.Cmp.{first_so}
 use Rattle.std.proofs.Common.{sym, subst, ap, ◌∙◌, refl}
-use Rattle.std.proofs.Math.Logic.{∥∥₁_elim}
 use Rattle.std.proofs.lemmas.Slice.Eq.{bytes_eq-Decides}
 use Rattle.demangle_core.specs.Core.{Core, same}
 use Rattle.demangle_core.specs.Table.{Table, same_tables}
@@ -93,8 +92,8 @@ of_one_reading {bytes} {x} {y} {t} {u} a b =
 symbols_agree : (a b : Contents) → IsSymbol a → IsSymbol b → same_contents a b ≡ true → a ≡ b
 symbols_agree a b p q e =
     let bytes : a.bytes ≡ b.bytes =
-        (bytes_eq-Decides a.bytes b.bytes).0
-        (first_so (bytes_eq a.bytes b.bytes) (same_tables a.table b.table && same a.tree b.tree) e) in
+    (bytes_eq-Decides a.bytes b.bytes).0
+    (first_so (bytes_eq a.bytes b.bytes) (same_tables a.table b.table && same a.tree b.tree) e) in
     ap (λ l. contents l a.table a.tree) bytes
     ∙ of_one_reading (subst (λ l. IsSymbol (contents l a.table a.tree)) bytes p) q
 

@@ -1,9 +1,9 @@
 -- What the printing of a symbol's tree tells: that sharing doesn't show, and what is declared of plain types.
-use Rattle.std.specs.Prelude.{◌≡◌, ℕ, Bool, true, false, cond, nat_eq, List, [], ◌∷◌, Option, Some, None, Result, Ok}
+use Rattle.std.specs.Prelude.{◌≡◌, ℕ, true, false, cond, nat_eq, List, [], ◌∷◌, Result, Ok}
 use Rattle.std.specs.Prelude.{Err, String, string_bytes}
 use Rattle.std.specs.Coded.{Coded, Coded-set, code_by, coded_ℕ, coded_list, coded_option, coded×}
 use Rattle.std.specs.declared.alloc.Global.{Global}
-use Rattle.std.proofs.Common.{refl, sym, subst, ap, ◌∙◌, true≢false}
+use Rattle.std.proofs.Common.{refl, sym, subst, ap, true≢false}
 use Rattle.std.proofs.Math.Logic.{∥∥₁_elim}
 use mathlib.Core.Bool.{Bool-set}
 use Rattle.demangle_core.specs.Core.{Core, Tag}
@@ -121,7 +121,7 @@ pub shows : (o : Options) (s : Contents) (p : Plain) → IsSoundFor s.bytes s.ta
     IsDeclaredOrLimited (declared p) (outcome_of (printed (with_table s.table s.bytes) o s.tree))
 shows o s p sound i =
     let h = parts_placed s.table s.bytes sound.entries.places Tag.Several Tag.MangledNameTopLevelType s.tree
-        (i.handle ∷ []) sound.places i.is_type in
+    (i.handle ∷ []) sound.places i.is_type in
     shows_declared (with_table s.table s.bytes) o s.tree i.handle p i.is_type i.is
     (types s.table s.bytes sound.entries.places Tag.MangledNameTopLevelType i.handle p h.0 i.is i.plain)
 

@@ -182,29 +182,3 @@ tells_nothing seen limit t =
       faults = λ n. refl;
       refusals = λ n. refl;
     }
-
--- ---- a text
--- Where the listener never fails and told its text before, which was empty, and tells it now.
-pub never_rose : {A : Type 0} → Rose 0 0 → A
-never_rose r = ⊎_elim (λ l. absurd (omega (arith, l))) (λ e. absurd (omega (arith, e))) r
-
-meets_so : {old new : Seen} {t : Telling} {e : DemangleError} → Stops old new t e → Meets t e
-meets_so d = record { fault = d.fault; is = d.is; met = d.met }
-
-pub text_meets : (old new : Seen) (limit : ℕ) (t : Telling) (e : DemangleError) → old.faults ≡ 0 → new.faults ≡ 0 →
-    Tells old new limit t (Err e) → IsText t (Err e)
-text_meets old new limit t error.Sink p q d =
-    never_rose (subst (λ n. Rose n 0) p (subst (λ n. Rose old.faults n) q d.ends.rose))
-text_meets old new limit t error.OutOfMemory p q d = tt
-text_meets old new limit t error.TooMuchRecursion p q d = meets_so d.ends
-text_meets old new limit t error.TooLong p q d = meets_so d.ends
-text_meets old new limit t error.NotUtf8 p q d = meets_so d.ends
-text_meets old new limit t (error.Reference e) p q d = meets_so d.ends
-
-pub text_told : (old new : Seen) (limit : ℕ) (t : Telling) (v : Unit {0}) (text : String Global) →
-    old.text ≡ Some [] → new.text ≡ Some (string_bytes text) → Tells old new limit t (Ok v) → IsText t (Ok text)
-text_told old new limit t v text p q d = (
-  d.ends.no_fault,
-  subst (λ n. Grows (Some []) n (text_of t.0)) q
-      (subst (λ n. Grows n new.text (text_of t.0)) p d.ends.told.text),
-)

@@ -1,10 +1,10 @@
 -- Names that are plain types, and the text that is declared of one.
-use Rattle.std.specs.Prelude.{◌≡◌, ℕ, ◌&&◌, ◌||◌, not, Bool, true, false, List, [], ◌∷◌, length, nat_lt, Result, Ok, Err}
-use Rattle.std.specs.Prelude.{String, string_bytes}
+use Rattle.std.specs.Prelude.{◌≡◌, ℕ, ◌&&◌, ◌||◌, not, Bool, true, false, List, [], ◌∷◌, length, nat_lt}
+use Rattle.std.specs.Prelude.{Result, Ok, Err, String, string_bytes}
 use Rattle.std.specs.declared.alloc.Global.{Global}
 use Rattle.demangle_core.specs.Core.{Core, Tag}
 use Rattle.demangle_vocab.specs.Builtins.{builtins}
-use Rattle.demangle_printing.specs.World.{World, node}
+use Rattle.demangle_printing.specs.World.{node}
 use Rattle.demangle_printing.specs.Trees.{with_table}
 use Rattle.demangle_printing.specs.Declarators.{Plain, Plains, builtin, class, const, to, function, none, more, Is}
 use Rattle.demangle_printing.specs.Declarators.{is_function, is_reference, may_be_reference}

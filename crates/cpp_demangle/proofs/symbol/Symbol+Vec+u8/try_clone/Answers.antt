@@ -1,4 +1,4 @@
-use Rattle.std.proofs.Common.{◌≡◌, rules}
+use Rattle.std.proofs.Common.{rules}
 use Rattle.demangle_nodes.specs.TreeNodes.{tree_of_mangled_name}
 use Rattle.demangle_table.specs.TableOf.{table_of}
 use Rattle.cpp_demangle.specs.Contents.{contents}
