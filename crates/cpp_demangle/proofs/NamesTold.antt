@@ -16,8 +16,8 @@ use Rattle.cpp_demangle.specs.Answer.{answer_of, read_fault, print_fault, is_of_
 use Rattle.cpp_demangle.specs.Reading.{reading as name_reading, whole}
 use Rattle.cpp_demangle.specs.Found.{IsFound}
 use Rattle.cpp_demangle.specs.Telling.{telling, Stops, Tells, Meets}
-use Rattle.cpp_demangle.specs.NameTold.{IsToldAnswer, Lengthens, Hears, HearsNothing, NameTold, is_of_telling}
-use Rattle.cpp_demangle.specs.NameTold.{may_be_told}
+use Rattle.cpp_demangle.specs.NameTold.{IsToldAnswer, KeepsFaults, Lengthens, Hears, HearsNothing, NameTold}
+use Rattle.cpp_demangle.specs.NameTold.{is_of_telling, may_be_told}
 use Rattle.cpp_demangle.proofs.Outcomes.{answers_unread, outcome_found, told_text, fault_as, of_tree}
 
 -- ---- a name that isn't read
@@ -33,6 +33,10 @@ module _ (limit : ℕ) (o : Options) (bytes : List ℕ) where
   pub unread_told : (e : Error) (s : Seen) → NameTold s s limit o bytes (Err (read_fault e))
   unread_told reading.OutOfMemory s = inl (hears_nothing s)
   unread_told e s = hears_nothing s
+
+  pub unread_faults : (e : Error) (s : Seen) → KeepsFaults s s (Err (read_fault e))
+  unread_faults reading.OutOfMemory s = refl
+  unread_faults e s = refl
 
   pub unread_caused : (e : Error) → IsFound (whole (name_reading limit bytes)) (Err e) →
       may_be_told (read_fault e) ≡ true
@@ -70,6 +74,10 @@ module _ (limit : ℕ) (o : Options) (bytes : List ℕ) {x : Core} {table : Tabl
       NameTold old new limit o bytes (Ok v)
   told_whole v d = hears d
 
+  pub told_faults : (v : Unit {0}) → Tells old new o.limit (telling table bytes o x) (Ok v) →
+      KeepsFaults old new (Ok v)
+  told_faults v d = d.faults (λ q. cc)
+
   pub told_lengthens : (v : Unit {0}) → Tells old new o.limit (telling table bytes o x) (Ok v) →
       Lengthens old.text new.text
   told_lengthens v d = (text_of (telling table bytes o x).0, d.ends.told.text)
@@ -85,6 +93,12 @@ module _ (limit : ℕ) (o : Options) (bytes : List ℕ) {x : Core} {table : Tabl
       NameTold old new limit o bytes (Err (print_fault e))
   stopped_told printing.OutOfMemory d = inr (hears d)
   stopped_told e d = hears d
+
+  pub stopped_faults : (e : DemangleError) → Tells old new o.limit (telling table bytes o x) (Err e) →
+      KeepsFaults old new (Err (print_fault e))
+  stopped_faults printing.OutOfMemory d = d.faults (λ q. cc)
+  stopped_faults printing.Sink d = tt
+  stopped_faults e d = d.faults (λ q. cc)
 
   pub stopped_lengthens : (e : DemangleError) → Tells old new o.limit (telling table bytes o x) (Err e) →
       Lengthens old.text new.text

@@ -23,6 +23,11 @@ IsToldAnswer answer old new (Err (fault.Print e)) = answer ≡ Err (fault.Print 
 IsToldAnswer answer old new (Err (fault.Read e)) = answer ≡ Err (fault.Read e)
 IsToldAnswer answer old new (Err fault.OutOfMemory) = Unit {0}
 
+-- The count of failures stays, but where the listener failed.
+abbrev pub KeepsFaults : (old new : Seen) → Result (Unit {0}) SymbolFault → Type 0
+KeepsFaults old new (Err (fault.Print printing.Sink)) = Unit {0}
+KeepsFaults old new r = new.faults ≡ old.faults
+
 -- A text that is told afterwards was told before, and has some more.
 abbrev pub Lengthens : (old new : Option (List ℕ)) → Type 0
 Lengthens old new = (more : List ℕ) × Grows old new more
