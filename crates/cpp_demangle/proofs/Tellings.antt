@@ -1,6 +1,6 @@
 -- What the printing of a symbol's tree tells: that sharing doesn't show, and what is declared of plain types.
 use Rattle.std.specs.Prelude.{◌≡◌, ℕ, true, false, cond, nat_eq, List, [], ◌∷◌, Result, Ok}
-use Rattle.std.specs.Prelude.{Err, String, string_bytes}
+use Rattle.std.specs.Prelude.{Err, IfErr, String, string_bytes}
 use Rattle.std.specs.Coded.{Coded, Coded-set, code_by, coded_ℕ, coded_list, coded_option, coded×}
 use Rattle.std.specs.declared.alloc.Global.{Global}
 use Rattle.std.proofs.Common.{refl, sym, subst, ap, true≢false}
@@ -23,11 +23,12 @@ use Rattle.demangle_meets.specs.Seen.{Seen}
 use Rattle.demangle_context.specs.TroubleOf.{error_at}
 use Rattle.demangle_context.specs.declared.error.DemangleError.{DemangleError}
 use Rattle.demangle_context.specs.declared.error.DemangleError.TheVariants as printing
+use Rattle.cpp_demangle.specs.Answer.{may_come, print_fault, is_of_tree}
 use Rattle.cpp_demangle.specs.Telling.{Telling, Tells, Meets, IsText}
 use Rattle.cpp_demangle.specs.Contents.{Contents, expanded, telling_of, telling_unshared}
 use Rattle.cpp_demangle.specs.Name.{IsSymbol}
 use Rattle.cpp_demangle.specs.Plain.{IsPlain, is_limit, Declares}
-use Rattle.cpp_demangle.proofs.Outcomes.{told_text, told_fault}
+use Rattle.cpp_demangle.proofs.Outcomes.{told_text, told_fault, of_tree}
 use Rattle.cpp_demangle.proofs.Plains.{parts_placed, types}
 
 -- ---- a telling is data, so that an equation between two has one proof
@@ -101,6 +102,16 @@ telling_code =
 -- what follows from a fact follows where there is a proof of it
 pub same_telling : {A : Type 0} {t u : Telling} → ∥ A ∥₁ → (A → t ≡ u) → t ≡ u
 same_telling {A} {t} {u} a f = ∥∥₁_elim a (Coded-set telling_code t u) f
+
+-- ---- causes
+error_caused : (t : Telling) (e : DemangleError) → IsText t (Err e) → may_come (print_fault e) ≡ true
+error_caused t printing.OutOfMemory d = refl
+error_caused t e d = subst (λ v. is_of_tree v ≡ true) d.is (of_tree d.fault)
+
+pub text_caused : (t : Telling) (r : Result (String Global) DemangleError) → IsText t r →
+    IfErr r (λ e. may_come (print_fault e) ≡ true)
+text_caused t (Ok text) d = tt
+text_caused t (Err e) d = error_caused t e d
 
 -- ---- sharing
 shared_alike : (s : Contents) (o : Options) → ∥ IsSymbol s ∥₁ → holds_param (expanded s) ≡ false →

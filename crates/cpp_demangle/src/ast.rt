@@ -1,119 +1,40 @@
 //! The syntax tree of a name, its parser and its printer: what a tool works with that reads or prints parts of names.
 
+pub use demangle_tree::{
+    AbiTag, AbiTags, ArrayType, BareFunctionType, BaseUnresolvedName, BuiltinType, CallOffset,
+    ClassEnumType, CloneSuffix, CloneTypeIdentifier, ClosureTypeName, CtorDtorName, CvQualifiers,
+    DataMemberPrefix, Decltype, DestructorName, Discriminator, Encoding, ExceptionSpec,
+    ExprPrimary, Expression, FoldExpr, FunctionParam, FunctionType, GetLeafName, GetTemplateArgs,
+    GlobalCtorDtor, Identifier, Initializer, IsCtorDtorConversion, LambdaSig, LeafName, LocalName,
+    MangledName, MemberName, Name, NestedName, NonSubstitution, Number, NvOffset, OperatorName,
+    ParametricBuiltinType, PointerToMemberType, Prefix, PrefixHandle, QualifiedBuiltin,
+    ResourceName, SeqId, SimpleId, SourceName, SpecialName, SubobjectExpr, Substitutable,
+    Substitution, SubstitutionTable, TemplateArg, TemplateArgs, TemplateParam,
+    TemplateTemplateParam, TemplateTemplateParamHandle, TypeHandle, TypeNode, UnnamedTypeName,
+    UnqualifiedName, UnresolvedName, UnresolvedQualifierLevel, UnresolvedType,
+    UnresolvedTypeHandle, UnscopedName, UnscopedTemplateName, UnscopedTemplateNameHandle, VOffset,
+    VectorType,
+};
+pub use demangle_vocab::{
+    ExplicitObjectParameter, RefQualifier, SimpleOperatorName, StandardBuiltinType,
+    WellKnownComponent,
+};
+
+// What copies, reads and prints it.
 pub use demangle_copies::TryClone;
-pub use demangle_leaf::ParseContext;
-pub use demangle_leaf::read_abi_tag;
-pub use demangle_leaf::read_abi_tags;
-pub use demangle_leaf::read_call_offset;
-pub use demangle_leaf::read_clone_suffix;
-pub use demangle_leaf::read_clone_type_identifier;
-pub use demangle_leaf::read_cv_qualifiers;
-pub use demangle_leaf::read_discriminator;
-pub use demangle_leaf::read_function_param;
-pub use demangle_leaf::read_identifier;
-pub use demangle_leaf::read_number;
-pub use demangle_leaf::read_nv_offset;
-pub use demangle_leaf::read_resource_name;
-pub use demangle_leaf::read_seq_id;
-pub use demangle_leaf::read_source_name;
-pub use demangle_leaf::read_substitution;
-pub use demangle_leaf::read_template_param;
-pub use demangle_leaf::read_unnamed_type_name;
-pub use demangle_leaf::read_v_offset;
+pub use demangle_leaf::{
+    ParseContext, read_abi_tag, read_abi_tags, read_call_offset, read_clone_suffix,
+    read_clone_type_identifier, read_cv_qualifiers, read_discriminator, read_function_param,
+    read_identifier, read_number, read_nv_offset, read_resource_name, read_seq_id,
+    read_source_name, read_substitution, read_template_param, read_unnamed_type_name,
+    read_v_offset,
+};
 pub use demangle_parse::Parse;
-pub use demangle_print::Demangle;
-pub use demangle_print::DemangleAsInner;
-pub use demangle_print::DemangleAsLeaf;
-pub use demangle_print::demangle_args;
-pub use demangle_print::demangle_inner;
-pub use demangle_scope::ArgScopeStack;
-pub use demangle_scope::DemangleContext;
-pub use demangle_scope::DemangleFlags;
-pub use demangle_scope::InnerBarrier;
-pub use demangle_scope::InnerItem;
-pub use demangle_scope::ScopeItem;
-pub use demangle_scope::scope_in_arg;
-pub use demangle_scope::scope_leaf_name;
-pub use demangle_scope::scope_push;
-pub use demangle_scope::scope_template_arg;
-pub use demangle_text::IndexStr;
-pub use demangle_text::consume;
-pub use demangle_text::parse_number;
-pub use demangle_tree::AbiTag;
-pub use demangle_tree::AbiTags;
-pub use demangle_tree::ArrayType;
-pub use demangle_tree::BareFunctionType;
-pub use demangle_tree::BaseUnresolvedName;
-pub use demangle_tree::BuiltinType;
-pub use demangle_tree::CallOffset;
-pub use demangle_tree::ClassEnumType;
-pub use demangle_tree::CloneSuffix;
-pub use demangle_tree::CloneTypeIdentifier;
-pub use demangle_tree::ClosureTypeName;
-pub use demangle_tree::CtorDtorName;
-pub use demangle_tree::CvQualifiers;
-pub use demangle_tree::DataMemberPrefix;
-pub use demangle_tree::Decltype;
-pub use demangle_tree::DestructorName;
-pub use demangle_tree::Discriminator;
-pub use demangle_tree::Encoding;
-pub use demangle_tree::ExceptionSpec;
-pub use demangle_tree::ExprPrimary;
-pub use demangle_tree::Expression;
-pub use demangle_tree::FoldExpr;
-pub use demangle_tree::FunctionParam;
-pub use demangle_tree::FunctionType;
-pub use demangle_tree::GetLeafName;
-pub use demangle_tree::GetTemplateArgs;
-pub use demangle_tree::GlobalCtorDtor;
-pub use demangle_tree::Identifier;
-pub use demangle_tree::Initializer;
-pub use demangle_tree::IsCtorDtorConversion;
-pub use demangle_tree::LambdaSig;
-pub use demangle_tree::LeafName;
-pub use demangle_tree::LocalName;
-pub use demangle_tree::MangledName;
-pub use demangle_tree::MemberName;
-pub use demangle_tree::Name;
-pub use demangle_tree::NestedName;
-pub use demangle_tree::NonSubstitution;
-pub use demangle_tree::Number;
-pub use demangle_tree::NvOffset;
-pub use demangle_tree::OperatorName;
-pub use demangle_tree::ParametricBuiltinType;
-pub use demangle_tree::PointerToMemberType;
-pub use demangle_tree::Prefix;
-pub use demangle_tree::PrefixHandle;
-pub use demangle_tree::QualifiedBuiltin;
-pub use demangle_tree::ResourceName;
-pub use demangle_tree::SeqId;
-pub use demangle_tree::SimpleId;
-pub use demangle_tree::SourceName;
-pub use demangle_tree::SpecialName;
-pub use demangle_tree::SubobjectExpr;
-pub use demangle_tree::Substitutable;
-pub use demangle_tree::Substitution;
-pub use demangle_tree::SubstitutionTable;
-pub use demangle_tree::TemplateArg;
-pub use demangle_tree::TemplateArgs;
-pub use demangle_tree::TemplateParam;
-pub use demangle_tree::TemplateTemplateParam;
-pub use demangle_tree::TemplateTemplateParamHandle;
-pub use demangle_tree::TypeHandle;
-pub use demangle_tree::TypeNode;
-pub use demangle_tree::UnnamedTypeName;
-pub use demangle_tree::UnqualifiedName;
-pub use demangle_tree::UnresolvedName;
-pub use demangle_tree::UnresolvedQualifierLevel;
-pub use demangle_tree::UnresolvedType;
-pub use demangle_tree::UnresolvedTypeHandle;
-pub use demangle_tree::UnscopedName;
-pub use demangle_tree::UnscopedTemplateName;
-pub use demangle_tree::UnscopedTemplateNameHandle;
-pub use demangle_tree::VOffset;
-pub use demangle_tree::VectorType;
-pub use demangle_vocab::ExplicitObjectParameter;
-pub use demangle_vocab::RefQualifier;
-pub use demangle_vocab::SimpleOperatorName;
-pub use demangle_vocab::StandardBuiltinType;
-pub use demangle_vocab::WellKnownComponent;
+pub use demangle_print::{
+    Demangle, DemangleAsInner, DemangleAsLeaf, demangle_args, demangle_inner,
+};
+pub use demangle_scope::{
+    ArgScopeStack, DemangleContext, DemangleFlags, InnerBarrier, InnerItem, ScopeItem,
+    scope_in_arg, scope_leaf_name, scope_push, scope_template_arg,
+};
+pub use demangle_text::{IndexStr, consume, parse_number};

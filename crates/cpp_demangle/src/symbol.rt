@@ -39,6 +39,7 @@ impl<T: RawBytes> Symbol<T> {
     ghost use Rattle.demangle_printing.specs.Laws.{holds_param};
     ghost use Rattle.demangle_printing.specs.Declarators.{Plain, declared};
     ghost use Rattle.demangle_context.specs.Options.{default_options};
+    ghost use Rattle.cpp_demangle.specs.Answer.{may_come, print_fault};
     ghost use Rattle.cpp_demangle.specs.Reading.{reading, whole};
     ghost use Rattle.cpp_demangle.specs.Name.{IsRead, IsRefused, IsNotWhole};
     ghost use Rattle.cpp_demangle.specs.Telling.{Tells, IsText};
@@ -102,6 +103,7 @@ impl<T: RawBytes> Symbol<T> {
         ensures shared { holds_param (expanded (contents_of self.now)) ≡ false
             → IsText (telling_unshared default_options (contents_of self.now)) result }
         ensures declared { (p : Plain) → IsPlain (contents_of self.now) p → Declares (declared p) result }
+        ensures causes { IfErr result (λ e. may_come (print_fault e) ≡ true) }
     {
         self.demangle_with_options(alloc, &DemangleOptions::default())
     }
@@ -117,6 +119,7 @@ impl<T: RawBytes> Symbol<T> {
         ensures shared { holds_param (expanded (contents_of self.now)) ≡ false
             → IsText (telling_unshared options.now (contents_of self.now)) result }
         ensures declared { (p : Plain) → IsPlain (contents_of self.now) p → Declares (declared p) result }
+        ensures causes { IfErr result (λ e. may_come (print_fault e) ≡ true) }
     {
         text(
             alloc,
