@@ -9,12 +9,12 @@ ghost use Rattle.demangle_answers.specs.Reads.{ReadsRow};
 
 use crate::local_names::local_name;
 use crate::nested_names::nested_name;
-use crate::unqualified_names::unqualified_name;
 use demangle_answers::{add_template_name, next_is, passed, restored};
 use demangle_below::Below;
 use demangle_entries::{Name, UnscopedName, UnscopedTemplateNameHandle};
 use demangle_leaf_rows::{Depth, substitution};
 use demangle_parse_types::template_args;
+use demangle_parse_unqualified::unqualified_name;
 use demangle_row_parts::template_name_of;
 use demangle_table::SubstitutionTable;
 use demangle_text::{IndexStr, Result, consume};
