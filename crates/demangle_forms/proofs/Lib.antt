@@ -1,4 +1,5 @@
 pub mod Alternatives
+pub mod Missed
 pub mod WordLaws
 pub mod Lasting
 pub mod Loops
