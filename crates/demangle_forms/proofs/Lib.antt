@@ -5,10 +5,12 @@ pub mod Lasting
 pub mod Loops
 pub mod Turns
 pub mod TypeLaws
+pub mod TypeStarts
 pub mod BuiltinLaws
 pub mod ArgLaws
 pub mod NameLaws
 pub mod UnqualifiedLaws
+pub mod UnqualifiedStarts
 pub mod SpecialLaws
 pub mod MangledLaws
 pub mod ExpressionLaws

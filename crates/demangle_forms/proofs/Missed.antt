@@ -50,10 +50,8 @@ none_of g [] = true
 none_of g (x ∷ xs) = not (g x) && none_of g xs
 
 -- the row begins with none of these bytes, and goes no more than n levels deep then
-pub record Apart (r : Row) (n : ℕ) (xs : List ℕ) : Type 0 where
-  pub takes : takes_row r ≡ true
-  pub shallow : nat_le (idle r) n ≡ true
-  pub begins : none_of (first r) xs ≡ true
+abbrev pub is_apart : Row → ℕ → List ℕ → Bool
+is_apart r n xs = takes_row r && (nat_le (idle r) n && none_of (first r) xs)
 
 -- nothing is left, or the next byte is one of these
 abbrev pub end_or_one : List ℕ → List ℕ → Bool
@@ -61,23 +59,24 @@ end_or_one xs bs = is_empty bs || next_is (Class.these xs) bs
 
 none_begins : (g : ℕ → Bool) (xs : List ℕ) → none_of g xs ≡ true → (b : ℕ) → is_one_of xs b ≡ true → g b ≡ false
 none_begins g [] n b e = absurd (cc)
-none_begins g (x ∷ xs) n b e = by (g x) refl (x == b) refl n e
+none_begins g (x ∷ xs) n b e = by (g x) refl (x == b) refl n e (λ p q. none_begins g xs p b q)
   where
     by : (z : Bool) → g x ≡ z → (y : Bool) → (x == b) ≡ y → (not z && none_of g xs) ≡ true
-        → (y || is_one_of xs b) ≡ true → g b ≡ false
-    by true p y q n e = absurd (cc)
-    by false p true q n e = ap g (sym (eqb-true x b q)) ∙ p
-    by false p false q n e = none_begins g xs n b e
+        → (y || is_one_of xs b) ≡ true → (none_of g xs ≡ true → is_one_of xs b ≡ true → g b ≡ false) → g b ≡ false
+    by true p y q n e more = absurd (cc)
+    by false p true q n e more = ap g (sym (eqb-true x b q)) ∙ p
+    by false p false q n e more = more n e
 
 one_misses : (g : ℕ → Bool) (xs bs : List ℕ) → none_of g xs ≡ true → end_or_one xs bs ≡ true → Misses g bs
 one_misses g xs [] n e = tt
 one_misses g xs (b ∷ bs) n e = none_begins g xs n b e
 
-pub apart_missed : (r : Row) (n : ℕ) (xs : List ℕ) (f : ℕ) (c : Bool) (s : Here) → Apart r n xs → n ≤ f
+pub apart_missed : (r : Row) (n : ℕ) (xs : List ℕ) (f : ℕ) (c : Bool) (s : Here) → is_apart r n xs ≡ true → n ≤ f
     → end_or_one xs s.spot.left ≡ true → IsMissed (cread f r c s [])
 apart_missed r n xs f c s a l e =
-    row_missed r f c s a.takes (omega (arith, leb-true (idle r) n a.shallow, l))
-    (one_misses (first r) xs s.spot.left a.begins e)
+    let ts = both_true (takes_row r) (nat_le (idle r) n && none_of (first r) xs) a in
+    let bs = both_true (nat_le (idle r) n) (none_of (first r) xs) ts.1 in
+    row_missed r f c s ts.0 (omega (arith, leb-true (idle r) n bs.0, l)) (one_misses (first r) xs s.spot.left bs.1 e)
 
 -- no word begins with another byte
 pub no_start : (b : ℕ) (w xs bs : List ℕ) → none_of (λ x. b == x) xs ≡ true → end_or_one xs bs ≡ true
@@ -119,6 +118,10 @@ one_of_both [] ys b = refl
 one_of_both (x ∷ xs) ys b =
     or_more (x == b) (is_one_of (xs ++ ys) b) (is_one_of xs b) (is_one_of ys b) (one_of_both xs ys b)
 
+second_true : (x y : Bool) → y ≡ true → (x || y) ≡ true
+second_true true y e = refl
+second_true false y e = e
+
 pub digit_or_one : (xs bs : List ℕ) → (next_is Class.digits bs || next_is (Class.these xs) bs) ≡ true
     → end_or_one (codes "0123456789" ++ xs) bs ≡ true
 digit_or_one xs [] e = refl
@@ -127,11 +130,7 @@ digit_or_one xs (b ∷ bs) e = one_of_both (codes "0123456789") xs b ∙ by (is_
     by : (z : Bool) → is_digit b ≡ z → (z || is_one_of xs b) ≡ true
         → (is_one_of (codes "0123456789") b || is_one_of xs b) ≡ true
     by true p e = ap (λ z. z || is_one_of xs b) (digit_is_one b p)
-    by false p e = or_right (is_one_of (codes "0123456789") b) e
-
-    or_right : (z : Bool) → is_one_of xs b ≡ true → (z || is_one_of xs b) ≡ true
-    or_right true e = refl
-    or_right false e = e
+    by false p e = second_true (is_one_of (codes "0123456789") b) (is_one_of xs b) e
 
 -- ---- an alternative is passed over where it begins with such a row, or with a word that isn't there
 abbrev pub IsPassed : Out → Type 0
