@@ -9,6 +9,7 @@ mod array_types;
 mod boxes;
 mod builtin;
 mod class_types;
+mod first_bytes;
 mod function_types;
 mod literals;
 mod template_params;

@@ -5,6 +5,7 @@
 #![tactic(auto)]
 
 mod closures;
+mod first_bytes;
 mod operators;
 mod unqualified_names;
 
