@@ -9,6 +9,7 @@ pub mod TypeStarts
 pub mod BuiltinLaws
 pub mod ArgLaws
 pub mod NameLaws
+pub mod NameStarts
 pub mod UnqualifiedLaws
 pub mod UnqualifiedStarts
 pub mod SpecialLaws

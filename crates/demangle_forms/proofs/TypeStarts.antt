@@ -17,7 +17,7 @@ use Rattle.demangle_forms.specs.TypeForms.{type_extension_at, type_qualified_at,
 use Rattle.demangle_forms.specs.TypeForms.{type_template_at, type_templates_at, type_shapes_at, type_names_at}
 use Rattle.demangle_forms.specs.TypeForms.{type_marks_at, type_handle_at}
 use Rattle.demangle_forms.specs.Starts.{TypeStart, leaves_type, type_from, found_or, qualified_types_at}
-use Rattle.demangle_forms.specs.Starts.{referred_types_at, function_types_at}
+use Rattle.demangle_forms.specs.Starts.{referred_types_at, function_types_at, refers}
 use Rattle.demangle_forms.proofs.Missed.{IsMissed, row_missed, none_of, is_apart, end_or_one, apart_missed}
 use Rattle.demangle_forms.proofs.Missed.{no_start, one_or_end, digit_or_one, passed_in, IsPassed}
 use Rattle.demangle_forms.proofs.Missed.{row_passed, word_passed, behind_passed, both_passed, closed_missed, passed_on}
@@ -109,10 +109,7 @@ no_class f c s l e n =
     (word_passed (codes "e") _ _ (no_start 101 [] numeral (drop 1 s.spot.left) refl n))))))
 
 -- ---- a reference where no arguments follow is no class
-abbrev refers : List ℕ → Bool
-refers bs = next_is (these "S") bs && not (next_is (these "t") (drop 1 bs))
-
-no_std : (bs : List ℕ) → refers bs ≡ true → starts (codes "St") bs ≡ false
+pub no_std : (bs : List ℕ) → refers bs ≡ true → starts (codes "St") bs ≡ false
 no_std [] e = refl
 no_std (b ∷ []) e = by (83 == b)
   where
@@ -126,7 +123,7 @@ no_std (b ∷ d ∷ bs) e = by (83 == b) (116 == d) e
     by true false e = refl
     by false z e = refl
 
-reference_next : (bs : List ℕ) → refers bs ≡ true → end_or_one (codes "S") bs ≡ true
+pub reference_next : (bs : List ℕ) → refers bs ≡ true → end_or_one (codes "S") bs ≡ true
 reference_next bs e =
     one_or_end (codes "S") bs (both_true (next_is (these "S") bs) (not (next_is (these "t") (drop 1 bs))) e).0
 
@@ -136,7 +133,7 @@ same_reference : (m n : ℕ) (c : Bool) (s : Here)
 unfolding cread rule
 same_reference m n c s = refl
 
-no_unscoped : (n : ℕ) (c : Bool) (s : Here) → 3 ≤ n → refers s.spot.left ≡ true
+pub no_unscoped : (n : ℕ) (c : Bool) (s : Here) → 3 ≤ n → refers s.spot.left ≡ true
     → IsMissed (cread (suc n) Row.unscoped_name c s [])
 unfolding cread rule takes_in first_in idle_in
 no_unscoped n c s l e =
