@@ -4,6 +4,7 @@
 #![tactic(auto)]
 
 mod encodings;
+mod first_bytes;
 mod local_names;
 mod mangled_names;
 mod names;

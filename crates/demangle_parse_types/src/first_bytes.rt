@@ -90,7 +90,7 @@ fn start_by(first: u8, rest: &[u8]) -> TypeStart
 }
 
 /// Whether a name of `std` stands there, behind its `S`.
-fn begins_std(rest: &[u8]) -> bool
+pub fn begins_std(rest: &[u8]) -> bool
     ensures { result ≡ next_is (these "t") rest.now }
 {
     match rest {

@@ -20,6 +20,7 @@ pub use array_types::{array_type, pointer_to_member_type, vector_type};
 pub use boxes::{boxed_encoding, boxed_expression, boxed_mangled_name, boxed_name};
 pub use builtin::{builtin_type, parametric_builtin_type};
 pub use class_types::{class_enum_type, decltype};
+pub use first_bytes::begins_std;
 pub use function_types::{bare_function_type, exception_spec, function_type, type_list};
 pub use literals::expr_primary;
 pub use template_params::template_template_param_handle;
