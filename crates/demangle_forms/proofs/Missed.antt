@@ -16,7 +16,7 @@ use Rattle.demangle_grammar.specs.Reading as reading
 use Rattle.demangle_grammar.specs.First.{takes_row, first, idle, Misses}
 use Rattle.demangle_grammar.specs.Laws.{IsRefused, cored}
 use Rattle.demangle_grammar.specs.Seen.{replied}
-use Rattle.demangle_grammar.specs.Code.{Here, Reply, Found, Refused, Out, Yes, No, close, committed, or_else}
+use Rattle.demangle_grammar.specs.Code.{Here, Reply, Found, Refused, Out, Yes, No, close, or_else}
 use Rattle.demangle_grammar.specs.Code.{from_row, read_spot, cread}
 use Rattle.demangle_grammar.specs.Parts.{else_row}
 use Rattle.demangle_grammar.proofs.CodeLaws.{of_trees, state_of}

@@ -1,6 +1,6 @@
 -- The alternatives of a name before those with which the next bytes leave it are passed over.
 use Rattle.std.specs.Prelude.{◌≤◌, codes}
-use Rattle.std.proofs.Common.{◌≡◌, refl, sym, ◌∙◌, arith, ℕ, zero, suc, Bool, true, false, List, []}
+use Rattle.std.proofs.Common.{◌≡◌, refl, sym, ◌∙◌, arith, ℕ, zero, suc, Bool, true, false, []}
 use Rattle.demangle_core.specs.Core.{Tag}
 use Rattle.demangle_grammar.specs.Rule.{Row}
 use Rattle.demangle_grammar.specs.Items.{◌·◌, ◌//◌, r, made, template_component}

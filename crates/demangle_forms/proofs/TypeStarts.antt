@@ -1,8 +1,8 @@
 -- The alternatives of a type before those with which the next bytes leave it are passed over.
 use Rattle.std.specs.Prelude.{◌≤◌, ◌&&◌, ◌||◌, ◌==◌, not, drop, codes, if◌then◌else◌}
 use Rattle.std.proofs.Common.{◌≡◌, refl, sym, ap, subst, ◌∙◌, arith, ℕ, zero, suc, Bool, true, false, List, [], ◌∷◌}
-use Rattle.demangle_core.specs.Core.{Core, Tag}
-use Rattle.demangle_text.specs.Kind.{Kind, Unread, Deep, Other, Text}
+use Rattle.demangle_core.specs.Core.{Core}
+use Rattle.demangle_text.specs.Kind.{Unread, Deep, Other, Text}
 use Rattle.demangle_text.specs.Word.{starts}
 use Rattle.demangle_grammar.specs.Rule.{Row, Class}
 use Rattle.demangle_grammar.specs.Items.{these}
@@ -11,7 +11,7 @@ use Rattle.demangle_grammar.specs.Rows.{rule}
 use Rattle.demangle_grammar.specs.First.{takes_in, first_in, idle_in, first, Misses}
 use Rattle.demangle_grammar.specs.Code.{Go, Here, Reply, Found, Refused, Out, Yes, No, close, committed, or_else}
 use Rattle.demangle_grammar.specs.Code.{from_row, cread}
-use Rattle.demangle_grammar.specs.Parts.{alone, else_row}
+use Rattle.demangle_grammar.specs.Parts.{else_row}
 use Rattle.demangle_grammar.proofs.Truth.{both_true}
 use Rattle.demangle_forms.specs.TypeForms.{type_extension_at, type_qualified_at, type_substitution_at, type_param_at}
 use Rattle.demangle_forms.specs.TypeForms.{type_template_at, type_templates_at, type_shapes_at, type_names_at}

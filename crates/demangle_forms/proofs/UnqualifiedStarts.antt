@@ -1,6 +1,6 @@
 -- The alternatives of a name without its scope before those with which the next bytes leave it are passed over.
 use Rattle.std.specs.Prelude.{◌≤◌, ◌==◌, codes}
-use Rattle.std.proofs.Common.{◌≡◌, refl, sym, ap, subst, ◌∙◌, ℕ, Bool, true, false, List, [], ◌∷◌}
+use Rattle.std.proofs.Common.{◌≡◌, refl, sym, ap, subst, ◌∙◌, ℕ, Bool, true, false, List, []}
 use Rattle.demangle_text.specs.Spot.{Spot}
 use Rattle.demangle_text.specs.Word.{starts}
 use Rattle.demangle_grammar.specs.Rule.{Row}
@@ -8,7 +8,7 @@ use Rattle.demangle_grammar.specs.Rows.{rule}
 use Rattle.demangle_grammar.specs.First.{takes_in, first_in, idle_in}
 use Rattle.demangle_grammar.specs.Code.{at, Go, Here, taken_if, taken_word, cread}
 use Rattle.demangle_grammar.specs.Parts.{alone}
-use Rattle.demangle_forms.specs.NameForms.{behind_on_at, operator_name, operator_at, unqualified_rest_at}
+use Rattle.demangle_forms.specs.NameForms.{behind_on_at, operator_name, unqualified_rest_at}
 use Rattle.demangle_forms.specs.UnqualifiedForms.{unnamed_at, unqualified_alternatives}
 use Rattle.demangle_forms.specs.Starts.{UnqualifiedStart, leaves_unqualified, unqualified_from, unqualified_names_at}
 use Rattle.demangle_forms.specs.Starts.{source_names_at}

@@ -1,6 +1,6 @@
 -- With which of its alternatives the next bytes leave a type, a name, or a name without its scope: those before can't
 -- begin with them, and aren't tried where levels enough are left.
-use Rattle.std.specs.Prelude.{ℕ, zero, suc, Bool, true, false, ◌&&◌, ◌||◌, not, List, [], ◌∷◌, drop, codes}
+use Rattle.std.specs.Prelude.{ℕ, zero, suc, Bool, true, false, ◌&&◌, ◌||◌, not, List, drop}
 use Rattle.demangle_core.specs.Core.{Tag}
 use Rattle.demangle_text.specs.Kind.{Deep}
 use Rattle.demangle_grammar.specs.Rule.{Class, Row}
