@@ -7,10 +7,12 @@ ghost use Rattle.demangle_leaf_nodes.specs.TreeLeaves.{tree_of_unqualified_name}
 ghost use Rattle.demangle_grammar.specs.Rule.{Row};
 ghost use Rattle.demangle_grammar.specs.Code.{cread, here};
 ghost use Rattle.demangle_forms.specs.NameForms.{unqualified_rest_at};
+ghost use Rattle.demangle_forms.specs.Starts.{source_names_at, unqualified_names_at};
 ghost use Rattle.demangle_forms.specs.UnqualifiedForms.{unnamed_at};
 ghost use Rattle.demangle_answers.specs.Reads.{Reads, ReadsRow};
 
 use crate::closures::closure_type_name;
+use crate::first_bytes::{UnqualifiedStart, unqualified_start};
 use crate::operators::{ctor_dtor_name, operator_name};
 use demangle_answers::{kept, passed, restored};
 use demangle_below::Below;
@@ -29,7 +31,7 @@ use std::alloc::Global;
 ///                    ::= <source-name> [<abi-tags>] | L <source-name> [<discriminator>] [<abi-tags>]
 ///                    ::= <unnamed-type-name> [<abi-tags>] | <closure-type-name> [<abi-tags>]
 /// ```
-#[tactic(auto, using(demangle_forms::proofs::NameLaws::unqualified_name_row_is, demangle_forms::proofs::Lasting::lasting), unfolding(demangle_forms::specs::NameForms::unqualified_name_row))]
+#[tactic(auto, using(demangle_forms::proofs::NameLaws::unqualified_name_row_is), unfolding(demangle_forms::specs::NameForms::unqualified_name_row, demangle_forms::specs::Starts::unqualified_names_at))]
 pub fn unqualified_name<'b, B: Below>(
     below: B,
     alloc: Global,
@@ -43,6 +45,46 @@ pub fn unqualified_name<'b, B: Below>(
         (table_of subs.old) (table_of subs.new) }
 {
     let depth = depth.enter()?;
+    let (name, rest) = unqualified_alternatives(below, alloc, depth, subs, input)?;
+    Ok((name, rest))
+}
+
+/// The alternatives of a name, behind its level, from the first one on that the next bytes leave.
+#[tactic(auto)]
+fn unqualified_alternatives<'b, B: Below>(
+    below: B,
+    alloc: Global,
+    depth: Depth,
+    subs: &mut SubstitutionTable,
+    input: IndexStr<'b>,
+) -> Result<(UnqualifiedName, IndexStr<'b>)>
+    requires can { B.can below }
+    requires room { depth.levels < B.most below }
+    ensures { Reads tree_of_unqualified_name result (table_of subs.old) (table_of subs.new)
+        (unqualified_names_at (cread depth.levels) depth.conversion (here (spot input.entry) (table_of subs.old))) }
+{
+    match unqualified_start(depth, input) {
+        UnqualifiedStart::All => any_unqualified(below, alloc, depth, subs, input),
+        UnqualifiedStart::Constructors => no_operator(below, alloc, depth, subs, input),
+        UnqualifiedStart::Sources => source_or_unnamed(below, alloc, depth, subs, input),
+        UnqualifiedStart::Unnamed => no_source_name(below, alloc, depth, subs, input),
+    }
+}
+
+/// All alternatives: operators, and what comes after these.
+#[tactic(auto, using(demangle_forms::proofs::Lasting::lasting), unfolding(demangle_forms::specs::Starts::unqualified_names_at))]
+fn any_unqualified<'b, B: Below>(
+    below: B,
+    alloc: Global,
+    depth: Depth,
+    subs: &mut SubstitutionTable,
+    input: IndexStr<'b>,
+) -> Result<(UnqualifiedName, IndexStr<'b>)>
+    requires can { B.can below }
+    requires room { depth.levels < B.most below }
+    ensures { Reads tree_of_unqualified_name result (table_of subs.old) (table_of subs.new)
+        (unqualified_names_at (cread depth.levels) depth.conversion (here (spot input.entry) (table_of subs.old))) }
+{
     let mark = subs.lengths();
     let operator = behind_on(input);
     if let Ok((operator, rest)) = passed(operator_name(below, alloc, depth, subs, operator))? {
@@ -54,8 +96,8 @@ pub fn unqualified_name<'b, B: Below>(
     Ok((name, rest))
 }
 
-/// The alternatives behind operators: constructors, destructors, names of the source, and what has none.
-#[tactic(auto, using(demangle_forms::proofs::UnqualifiedLaws::unqualified_rest_is, demangle_forms::proofs::Lasting::lasting), unfolding(demangle_forms::specs::UnqualifiedForms::unqualified_alternatives))]
+/// Constructors and destructors, and what comes after these.
+#[tactic(auto, using(demangle_forms::proofs::UnqualifiedLaws::unqualified_rest_is, demangle_forms::proofs::Lasting::lasting), unfolding(demangle_forms::specs::UnqualifiedForms::unqualified_alternatives, demangle_forms::specs::Starts::source_names_at))]
 fn no_operator<'b, B: Below>(
     below: B,
     alloc: Global,
@@ -74,6 +116,24 @@ fn no_operator<'b, B: Below>(
         let (tags, rest) = restored(subs, mark, answer)?;
         return Ok((UnqualifiedName::CtorDtor(name, tags), rest));
     }
+    let (name, rest) = source_or_unnamed(below, alloc, depth, subs, input)?;
+    Ok((name, rest))
+}
+
+/// Names of the source, with `L` before those of internal linkage, and what has none.
+#[tactic(auto, using(demangle_forms::proofs::Lasting::lasting), unfolding(demangle_forms::specs::Starts::source_names_at))]
+fn source_or_unnamed<'b, B: Below>(
+    below: B,
+    alloc: Global,
+    depth: Depth,
+    subs: &mut SubstitutionTable,
+    input: IndexStr<'b>,
+) -> Result<(UnqualifiedName, IndexStr<'b>)>
+    requires can { B.can below }
+    requires room { depth.levels < B.most below }
+    ensures { Reads tree_of_unqualified_name result (table_of subs.old) (table_of subs.new)
+        (source_names_at (cread depth.levels) depth.conversion (here (spot input.entry) (table_of subs.old))) }
+{
     if let Ok(rest) = consume(b"L", input) {
         let (name, rest) = SourceName::read_leaf(depth, rest)?;
         let (discriminator, rest) = optional_discriminator(depth, rest)?;
