@@ -4,6 +4,7 @@
 
 mod cutting;
 pub mod filter;
+mod gathering;
 mod lines;
 mod names;
 pub mod program;
