@@ -5,8 +5,6 @@ mod demangle;
 pub mod error;
 mod reading;
 mod telling;
-#[cfg(test)]
-mod tests;
 
 pub use demangle::{SymbolFault, demangle_symbol};
 pub use demangle_scope::{DemangleNodeType, DemangleOptions, DemangleWrite, TextSink};

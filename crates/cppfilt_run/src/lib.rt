@@ -12,8 +12,6 @@ pub mod run;
 mod sample;
 mod shown;
 pub mod status;
-#[cfg(test)]
-mod tests;
 pub mod words;
 
 pub use cppfilt_ends::{ends, faulty, memory, standard};
