@@ -21,8 +21,7 @@ pub(crate) struct Gathering {
 impl Gathering {
     /// A listener that puts the text behind these bytes.
     fn behind(gathered: Vec<u8>) -> Gathering
-        ensures text { (⟦<Gathering as DemangleWrite>⟧.seen result).text ≡ Some gathered.items }
-        ensures faults { (⟦<Gathering as DemangleWrite>⟧.seen result).faults ≡ 0 }
+        ensures { result.gathered.items ≡ gathered.items }
     {
         Gathering {
             gathered,
@@ -32,7 +31,7 @@ impl Gathering {
 
     /// The bytes, and the text behind them, taken out.
     fn into_gathered(self) -> Vec<u8>
-        ensures { (⟦<Gathering as DemangleWrite>⟧.seen self).text ≡ Some result.items }
+        ensures { result.items ≡ self.gathered.items }
     {
         self.gathered
     }
