@@ -13,6 +13,7 @@ use std::mem;
 
 /// A listener that puts the text behind what it was made with, and keeps nothing of the nodes. It fails for no cause
 /// but memory.
+#[derive(Drop)]
 pub(crate) struct Gathering {
     gathered: Vec<u8>,
     refusals: u64,
