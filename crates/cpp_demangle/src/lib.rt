@@ -9,8 +9,6 @@ mod raw;
 mod reading;
 mod symbol;
 mod telling;
-#[cfg(test)]
-mod tests;
 
 pub use demangle::{SymbolFault, demangle_symbol};
 pub use demangle_scope::{DemangleNodeType, DemangleOptions, DemangleWrite, TextSink};

@@ -9,25 +9,34 @@ use std::alloc::{AllocError, Global};
 
 /// What stands above the usage.
 const ABOUT: &str = "\
-Shows C++ linker names as the names in the source.
+Show C++ linker names as the names in the source.
 
-Each line of standard input that is a linker name of the Itanium C++ ABI, as GCC and Clang make
-them, is replaced by its text. All other lines are written as they are.";
+Standard input is copied to standard output, line by line. A line that is a linker name, whole,
+becomes its text: a name of the Itanium C++ ABI, as GCC and Clang make them. Any other line stays
+as it is.";
 
 /// What stands behind the options.
 const AFTER: &str = "\
+A line is taken for a name where it begins with _Z, __Z, ___Z, ____Z or _GLOBAL_, or with --types
+always, and has at most 1048576 bytes. A name that can't be read or shown stays as it is.
+
+Examples:
+  Show a name:
+      cppfilt _ZNSt6vectorIiSaIiEE9push_backERKi
+  Show the symbols of an object file:
+      nm -P main.o | cut -d' ' -f1 | cppfilt
+  Show the functions in a trace of glibc's backtrace_symbols:
+      sed 's/.*(\\(.*\\)+.*/\\1/' trace | cppfilt
+  Tell why some names have no text:
+      cppfilt --why < names.txt
+
 Exit status:
-  0  done
+  0  done, or help was asked for
   2  wrong words
   3  a read failed
   4  a write failed
   5  the input has more than 2^40 bytes
-  6  out of memory
-
-Examples:
-  nm -P libexample.so | cut -d' ' -f1 | cppfilt
-  cppfilt _ZNSt6vectorIiSaIiEE9push_backERKi
-  cppfilt --types --why < names.txt";
+  6  out of memory";
 
 /// A flag by its name and its letter.
 fn flag<'a>(alloc: Global, name: &'a str, letter: char, help: &'a str) -> Arg<'a>
@@ -57,7 +66,7 @@ fn names<'a>(alloc: Global) -> Arg<'a>
     Arg::new(alloc, "names")
         .value_name("NAME")
         .action(ArgAction::Append)
-        .help("Show these names, one a line, in place of standard input")
+        .help("Show these names, one a line, and leave standard input unread")
 }
 
 /// A command with the flags.
@@ -75,7 +84,7 @@ fn with_flags<'a>(alloc: Global, command: Command<'a>) -> Result<Command<'a>, Al
             alloc,
             "no-return-type",
             'r',
-            "Leave out the result types of function templates",
+            "Leave out the return types of function templates",
         ))?
         .arg(flag(
             alloc,
@@ -105,22 +114,22 @@ fn with_numbers<'a>(alloc: Global, command: Command<'a>) -> Result<Command<'a>, 
         .arg(number(
             alloc,
             "parse-limit",
-            "Levels of nesting in a name, 1 to 1024 [default: 96]",
+            "Levels of nesting a name may have, 1 to 1024 [default: 96]",
         ))?
         .arg(number(
             alloc,
             "print-limit",
-            "Levels of nesting in its text, 1 to 1024 [default: 128]",
+            "Levels of nesting its text may have, 1 to 1024 [default: 128]",
         ))?
         .arg(number(
             alloc,
             "max-output",
-            "Longest text of a name in bytes, 1 to 1073741824 [default: no limit]",
+            "Bytes its text may have, 1 to 1073741824 [default: any number]",
         ))?
         .arg(number(
             alloc,
             "sample",
-            "Demangle a sample of N names, 1 to 100000, and count their texts",
+            "Demangle N made-up names, 1 to 100000, and count their texts",
         ))
 }
 

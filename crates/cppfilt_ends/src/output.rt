@@ -60,6 +60,18 @@ fn emit_many<W: Sink>(output: &mut W, pending: &mut Vec<u8>, bytes: &[u8]) -> Re
     write_all(output, bytes)
 }
 
+/// Writes what is gathered where it is more than is gathered at most.
+#[tactic(auto, using(crate::proofs::MoveLaws::move_laws))]
+pub fn relieve<W: Sink>(output: &mut W, pending: &mut Vec<u8>) -> Result<(), SinkFault>
+    ensures { Gives (W.written output.old) (W.written output.new) (W.faults output.old) (W.faults output.new) result
+        pending.old.items pending.new.items }
+{
+    if pending.len() <= GATHERED {
+        return Ok(());
+    }
+    flush(output, pending)
+}
+
 /// Gives on two pieces, one behind the other.
 pub fn emit_both<W: Sink>(
     output: &mut W,

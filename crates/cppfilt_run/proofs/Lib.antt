@@ -1,4 +1,5 @@
 pub mod ChunkLaws
+pub mod GatheredLaws
 pub mod NameLaws
 pub mod OwedLaws
 pub mod RanLaws

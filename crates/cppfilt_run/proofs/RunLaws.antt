@@ -78,7 +78,10 @@ pub going-more : {o : FilterOptions} {limit r0 r w0 w t0 t : ℕ} {left0 left ou
     → count + n ≤ limit
     → Going o limit r0 r' w0 w' t0 t' left0 left' out0 out' gathered' held' (count + n)
 going-more {o} {limit} {r0} {r} {w0} {w} {t0} {t} {left0} {left} {out0} {out} {gathered} {held} {count}
-    n r' w' t' left' out' gathered' held' bytes g er ew et eb c m none kept within = record {
+    n r' w' t' left' out' gathered' held' bytes g er ew et eb c m none kept within =
+    let before = ahead o gathered held in
+    let now = ahead o gathered' held' in
+    record {
       reads = er ∙ g.reads;
       writes = ew ∙ g.writes;
       at_least = rw et (count-more t0 t count n g.at_least);
@@ -87,7 +90,7 @@ going-more {o} {limit} {r0} {r} {w0} {w} {t0} {t} {left0} {left} {out0} {out} {g
       bytes = g.bytes ++ bytes;
       counted = length-append g.bytes bytes ∙ ap (λ k. k + length bytes) g.counted ∙ ap (λ k. count + k) eb;
       consumes = Consumes-trans left0 left left' g.bytes bytes g.consumes c;
-      moves = moves-block out0 out out' (due o) (ahead o gathered held) (ahead o gathered' held') g.bytes bytes g.moves m;
+      moves = moves-block out0 out out' (due o) before now g.bytes bytes g.moves m;
       flushed = none;
       kept = kept g.bytes g.kept;
     }

@@ -1,11 +1,16 @@
 -- Laws on the names of a sample and on what is counted of them.
 use Rattle.std.proofs.Common.{◌≡◌, ℕ, zero, suc, ◌+◌, ◌%◌, List, [], ◌∷◌, ◌++◌, length, sym, ap, ◌∙◌, append_assoc}
 use Rattle.std.proofs.Common.{add-one}
-use Rattle.std.proofs.Common.{append-nil, arith, codes}
+use Rattle.std.proofs.Common.{append-nil, arith, codes, refl, Ok, Err}
+use Rattle.std.specs.Prelude.{Some, None}
 use Rattle.std.specs.Fmt.{decimal}
-use Rattle.cppfilt_lines.specs.Sample.{copies, sample_name, sample_texts, source_name, summary, type_at, types_from}
+use Rattle.demangle_printing.specs.Outcome.{Outcome, Shown, NotRead, NotPrinted}
+use Rattle.cpp_demangle.specs.Answer.{answer_of}
+use Rattle.cpp_demangle.specs.declared.demangle.SymbolFault.{SymbolFault}
+use Rattle.cppfilt_lines.specs.Sample.{copies, sample_name, sample_texts, source_name, summary, text_in, type_at}
+use Rattle.cppfilt_lines.specs.Sample.{types_from}
 use Rattle.cppfilt_lines.specs.declared.options.FilterOptions.{FilterOptions}
-use Rattle.cppfilt_run.specs.Counted.{Counted}
+use Rattle.cppfilt_run.specs.Counted.{Counted, IsLength}
 
 -- one copy more, at the end
 pub copies-more : (n : ℕ) (bytes : List ℕ) → copies (suc n) bytes ≡ copies n bytes ++ bytes
@@ -56,3 +61,16 @@ summary-made o n read bytes a b c d e counted empty names reads all ends =
     ∙ ap (λ k. codes "names " ++ decimal n ++ codes " read " ++ decimal (length texts) ++ codes " bytes " ++ decimal k)
     counted.1 in
     ends ∙ ap (λ l. l ++ 10 ∷ []) d'
+
+-- ---- a name's text
+pub length-found : (out : Outcome) (new text : List ℕ) (n : ℕ) → answer_of out ≡ Ok text → new ≡ [] ++ text
+    → n ≡ length new → IsLength (text_in out) (Some n)
+length-found (Shown t) new text n found is counted =
+    (text, ap (λ l. l ∷ []) cc, counted ∙ ap length is)
+length-found (NotRead k) new text n found is counted = absurd cc
+length-found (NotPrinted f) new text n found is counted = absurd cc
+
+pub none-found : (out : Outcome) (f : SymbolFault) → answer_of out ≡ Err f → IsLength (text_in out) None
+none-found (Shown t) f found = absurd cc
+none-found (NotRead k) f found = refl
+none-found (NotPrinted g) f found = refl

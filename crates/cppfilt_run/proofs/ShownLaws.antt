@@ -2,15 +2,13 @@
 use Rattle.std.proofs.Common.{◌≡◌, ℕ, ◌-◌, ◌≤◌, Bool, false, List, [], ◌∷◌, ◌++◌, length, take, drop, refl, sym}
 use Rattle.std.proofs.Common.{ap}
 use Rattle.std.proofs.Common.{◌∙◌, append_assoc, arith, eqb, get_or, rules, tests, true, Ok, Err}
-use Rattle.std.specs.Prelude.{String, string_bytes}
 use Rattle.std.proofs.lemmas.List.{length-take-le}
 use Rattle.std.proofs.lemmas.Grind.{common_steps}
-use Rattle.std.specs.declared.alloc.Global.{Global}
 use Rattle.demangle_text.specs.Kind.{Kind, Unread, Deep, Other, End, Text, Bad, Over}
 use Rattle.demangle_text.specs.Texts.{error_text}
 use Rattle.demangle_printing.specs.Outcome.{Outcome, Shown, NotRead, NotPrinted, outcome}
 use Rattle.demangle_context.specs.TroubleOf.{error_at}
-use Rattle.cpp_demangle.specs.Answer.{answer_of, IsAnswer, fault_text, read_error}
+use Rattle.cpp_demangle.specs.Answer.{answer_of, fault_text, read_error}
 use Rattle.cpp_demangle.specs.declared.demangle.SymbolFault.{SymbolFault}
 use Rattle.cpp_demangle.specs.declared.demangle.SymbolFault.TheVariants as fault
 use Rattle.cppfilt_lines.specs.Due.{shown_line}
@@ -18,6 +16,7 @@ use Rattle.cppfilt_lines.specs.Lines.{body, ending}
 use Rattle.cppfilt_lines.specs.Shown.{answered, is_asked, is_named, reading_text, refused, shown}
 use Rattle.cppfilt_lines.specs.declared.options.FilterOptions.{FilterOptions}
 use Rattle.cppfilt_lines.proofs.LineLaws.{body-ending, shown-asked, shown-kept}
+use Rattle.cppfilt_run.specs.Gathered.{IsGathered}
 
 -- no name begins with another byte than `_`
 pub unnamed : (b : List ℕ) → eqb (get_or b 0 0) 95 ≡ false → is_named b ≡ false
@@ -73,21 +72,16 @@ fault-answered o b f (NotPrinted g) e =
     let is : fault.Print (error_at g) ≡ f = cc in
     ap (λ (x : SymbolFault). refused o.why b (fault_text x)) is
 
--- bytes that are asked, by what the call answers
-pub shown-text : (o : FilterOptions) (b : List ℕ) (text : String Global) → is_asked o b ≡ true
-    → IsAnswer (answer_of (outcome o.parse o.print b)) (Ok text) → shown o b ≡ string_bytes text
-shown-text o b text asked is =
-    shown-asked o b asked ∙ text-answered o b (string_bytes text) (outcome o.parse o.print b) is
-
-is-fault : (out : Outcome) (f : SymbolFault) → (f ≡ fault.OutOfMemory → ⊥)
-    → IsAnswer (answer_of out) (Err f) → answer_of out ≡ Err f
-is-fault out (fault.Read e) other is = is
-is-fault out (fault.Print e) other is = is
-is-fault out fault.OutOfMemory other is = absurd (other refl)
+-- bytes that are asked, by the answer of their outcome
+shown-text : (o : FilterOptions) (b text : List ℕ) → is_asked o b ≡ true
+    → answer_of (outcome o.parse o.print b) ≡ Ok text → shown o b ≡ text
+shown-text o b text asked is = shown-asked o b asked ∙ text-answered o b text (outcome o.parse o.print b) is
 
 pub shown-fault : (o : FilterOptions) (b : List ℕ) (f : SymbolFault) → is_asked o b ≡ true
-    → (f ≡ fault.OutOfMemory → ⊥) → IsAnswer (answer_of (outcome o.parse o.print b)) (Err f)
-    → shown o b ≡ refused o.why b (fault_text f)
-shown-fault o b f asked other is =
-    shown-asked o b asked
-    ∙ fault-answered o b f (outcome o.parse o.print b) (is-fault (outcome o.parse o.print b) f other is)
+    → answer_of (outcome o.parse o.print b) ≡ Err f → shown o b ≡ refused o.why b (fault_text f)
+shown-fault o b f asked is = shown-asked o b asked ∙ fault-answered o b f (outcome o.parse o.print b) is
+
+-- what is gathered once the text is
+pub gathered-shown : (o : FilterOptions) (b old new : List ℕ) → is_asked o b ≡ true
+    → IsGathered (answer_of (outcome o.parse o.print b)) old new (Ok tt) → old ++ shown o b ≡ new
+gathered-shown o b old new asked is = ap (λ t. old ++ t) (shown-text o b is.0 asked is.1) ∙ sym is.2

@@ -1,4 +1,5 @@
 pub mod Counted
+pub mod Gathered
 pub mod Outcome
 pub mod Owed
 pub mod Ran

@@ -4,6 +4,7 @@
 
 mod cutting;
 pub mod filter;
+mod gathering;
 mod lines;
 mod names;
 pub mod program;
@@ -11,8 +12,6 @@ pub mod run;
 mod sample;
 mod shown;
 pub mod status;
-#[cfg(test)]
-mod tests;
 pub mod words;
 
 pub use cppfilt_ends::{ends, faulty, memory, standard};

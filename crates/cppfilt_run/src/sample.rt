@@ -9,8 +9,9 @@ ghost use Rattle.cppfilt_run.specs.Counted.{Counted, IsLength};
 ghost use Rattle.cppfilt_run.specs.Outcome.{Finished};
 
 use crate::filter::status_of;
+use crate::gathering::gather;
 use crate::status::Status;
-use cpp_demangle::{SymbolFault, demangle_symbol};
+use cpp_demangle::SymbolFault;
 use cppfilt_ends::ends::Sink;
 use cppfilt_ends::output::write_all;
 use cppfilt_lines::FilterOptions;
@@ -95,8 +96,9 @@ fn text_len(
 ) -> Result<Option<usize>, AllocError>
     ensures { IfOk result (IsLength (text_in (outcome options.now.parse options.now.print name.now))) }
 {
-    match demangle_symbol(alloc, name, &options.parse, &options.print) {
-        Ok(text) => Ok(Some(text.len())),
+    let mut text = Vec::new(alloc);
+    match gather(alloc, options, &mut text, name) {
+        Ok(()) => Ok(Some(text.len())),
         Err(SymbolFault::OutOfMemory) => Err(AllocError),
         Err(_) => Ok(None),
     }

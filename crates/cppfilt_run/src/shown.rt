@@ -5,9 +5,10 @@ ghost use Rattle.cppfilt_ends.specs.Moves.{Gives};
 ghost use Rattle.cppfilt_run.specs.Refused.{IsRefused};
 ghost use Rattle.cppfilt_lines.specs.Shown.{is_named, is_asked, refused, shown};
 
-use cpp_demangle::{SymbolFault, demangle_symbol};
+use crate::gathering::gather;
+use cpp_demangle::SymbolFault;
 use cppfilt_ends::ends::Sink;
-use cppfilt_ends::output::{emit, emit_both};
+use cppfilt_ends::output::{emit, emit_both, relieve};
 use cppfilt_lines::FilterOptions;
 use demangle_context::SinkFault;
 use std::alloc::Global;
@@ -62,8 +63,8 @@ pub(crate) fn emit_asked<W: Sink>(
     ensures { Gives (W.written output.old) (W.written output.new) (W.faults output.old) (W.faults output.new) result
         (pending.old.items ++ shown options.now bytes.now) pending.new.items }
 {
-    match demangle_symbol(alloc, bytes, &options.parse, &options.print) {
-        Ok(text) => emit(output, pending, text.as_bytes()),
+    match gather(alloc, options, pending, bytes) {
+        Ok(()) => relieve(output, pending),
         Err(fault) => emit_fault(options.why, output, pending, bytes, fault),
     }
 }

@@ -1,18 +1,20 @@
-use Rattle.std.proofs.Common.{◌∙◌, sym}
 use Rattle.cppfilt_lines.specs.Shown.{shown}
-use Rattle.cppfilt_run.proofs.ShownLaws.{shown-text, shown-fault}
+use Rattle.cppfilt_run.proofs.ShownLaws.{gathered-shown, shown-fault}
 use Rattle.cppfilt_run.proofs.shown.emit_asked.Goals as goal
 
 -- the bytes have a text
 pub returns-in-Ok : goal.returns-in-Ok
 returns-in-Ok g c =
-    let becomes = shown-text c.args.options.now c.args.bytes.now c.in-Ok.text c.requires c.in-Ok.ensures.outcome in
-    rw (becomes ∙ sym c.as_bytes.ensures.value) c.emit.ensures
+    let o = c.args.options.now in
+    let gathered = gathered-shown o c.args.bytes.now c.args.pending.now.items c.gather.new.pending.items c.requires
+    c.in-Ok.ensures in
+    rw gathered c.relieve.ensures
 
 -- or a cause why not
 pub returns-in-Err : goal.returns-in-Err
 returns-in-Err g c =
     let o = c.args.options.now in
     let bytes = c.args.bytes.now in
-    c.emit_fault.ensures (shown o bytes)
-    (λ differs. shown-fault o bytes c.in-Err.fault c.requires differs c.in-Err.ensures.outcome)
+    rw (← c.in-Err.ensures.0)
+    (c.emit_fault.ensures (shown o bytes)
+    (λ differs. shown-fault o bytes c.in-Err.fault c.requires (c.in-Err.ensures.1 differs)))

@@ -1,0 +1,18 @@
+//! Names, faults, events and runs from outside, as tests of the library's and the program's public calls: that the
+//! definitions say what they are meant to, which no clause can say, and that memory is there.
+#![tactic(auto)]
+
+#[cfg(test)]
+mod ends;
+#[cfg(test)]
+mod faults;
+#[cfg(test)]
+mod listener;
+#[cfg(test)]
+mod runs;
+#[cfg(test)]
+mod symbols;
+#[cfg(test)]
+mod texts;
+#[cfg(test)]
+mod words;
