@@ -40,7 +40,7 @@ pub row_missed : (r : Row) (f : ℕ) (c : Bool) (s : Here) → takes_row r ≡ t
 row_missed r f c s t l m =
     let i = is_idle 0 r c (state_of s) t m in
     let all : read_from trees f r c (state_of s) nil ≡ read_all r c (state_of s) =
-        reads_all r c (state_of s) f (omega (arith, i.1, l)) in
+    reads_all r c (state_of s) f (omega (arith, i.1, l)) in
     subst IsMissed (ap (λ x. replied (cored x)) (sym all) ∙ of_trees f r c s [])
     (refused_is_missed (read_all r c (state_of s)) i.0)
 

@@ -69,7 +69,7 @@ name_starts NameStart.templates (suc f) c s l e =
     (apart_missed Row.nested_name 5 (codes "S") (suc f) c s refl l (reference_next s.spot.left e))
     (no_unscoped f c s (omega (arith, l)) e)
 name_starts NameStart.locals f c s l e =
-    let xs = codes "ZTGEIPRKFAMOJXV_." in
+    let xs = codes "ZTGKVE_." in
     to_templates (cread f) c s (apart_missed Row.nested_name 5 xs f c s refl l e)
     (apart_missed Row.unscoped_name 5 xs f c s refl l e)
     ∙ to_locals (cread f) c s (apart_missed Row.unscoped_template_name_handle 5 xs f c s refl l e)

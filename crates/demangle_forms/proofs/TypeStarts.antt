@@ -177,10 +177,10 @@ module _ (n : ℕ) (c : Bool) (s m : Here) (t : Core) (l : 3 ≤ n) (e : refers 
   unfolding cread rule takes_in first_in idle_in
   no_name =
       let nested = apart_missed Row.nested_name 3 (codes "S") (suc (suc n)) c s refl (omega (arith, l))
-          (reference_next s.spot.left e) in
+      (reference_next s.spot.left e) in
       let unscoped = no_unscoped (suc n) c s (omega (arith, l)) e in
       let template = template_is_reference n c s l e
-          ∙ ap (λ x. close (from_row x (λ k u. Yes k (u ∷ [])))) q in
+      ∙ ap (λ x. close (from_row x (λ k u. Yes k (u ∷ [])))) q in
       missed_behind _ _ (row_passed (cread (suc (suc n)) Row.nested_name c s []) _ nested)
       (missed_behind _ _ (row_passed (cread (suc (suc n)) Row.unscoped_name c s []) _ unscoped)
       (missed_behind _ _ (row_passed (cread (suc (suc n)) Row.unscoped_name c s []) _ unscoped)
@@ -258,7 +258,7 @@ type_starts TypeStart.shapes f c s l e =
 type_starts TypeStart.templates zero c s l e = absurd (omega (arith, l))
 type_starts TypeStart.templates (suc f) c s l e =
     let es = both_true (next_is (these "T") s.spot.left) (next_is Class.digits (drop 1 s.spot.left)
-        || next_is (these "_") (drop 1 s.spot.left)) e in
+    || next_is (these "_") (drop 1 s.spot.left)) e in
     let n = one_or_end (codes "T") s.spot.left es.0 in
     let m = no_class f c s (omega (arith, l)) es.0 (digit_or_one (codes "_") (drop 1 s.spot.left) es.1) in
     from_names (suc f) c s l (codes "T") refl refl refl n

@@ -66,7 +66,7 @@ unqualified_starts UnqualifiedStart.sources f c s l e =
     from_constructors f c s l xs refl refl n
     ∙ to_sources (cread f) c s (gone f c s l Row.ctor_dtor_name xs refl n)
 unqualified_starts UnqualifiedStart.unnamed f c s l e =
-    let xs = codes "USTGNZEIPRKFAMOJXV_." in
+    let xs = codes "USTGNZE_" in
     from_constructors f c s l xs refl refl e
     ∙ to_sources (cread f) c s (gone f c s l Row.ctor_dtor_name xs refl e)
     ∙ to_unnamed (cread f) c s (no_start 76 [] xs s.spot.left refl e) (gone f c s l Row.source_name xs refl e)

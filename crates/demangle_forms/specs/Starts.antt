@@ -70,7 +70,7 @@ abbrev pub leaves_unqualified : UnqualifiedStart → List ℕ → Bool
 leaves_unqualified UnqualifiedStart.all bs = true
 leaves_unqualified UnqualifiedStart.constructors bs = next_is (these "CD") bs
 leaves_unqualified UnqualifiedStart.sources bs = next_is Class.digits bs || next_is (these "L") bs
-leaves_unqualified UnqualifiedStart.unnamed bs = is_empty bs || next_is (these "USTGNZEIPRKFAMOJXV_.") bs
+leaves_unqualified UnqualifiedStart.unnamed bs = is_empty bs || next_is (these "USTGNZE_") bs
 
 unfoldable pub unqualified_names_at : Go → Bool → Here → Reply
 unqualified_names_at go c s = else_row (operator_at go c s) (λ u. unqualified_rest_at go c s)
@@ -125,7 +125,7 @@ pub data NameStart : Type 0 where
 abbrev pub leaves_name : NameStart → List ℕ → Bool
 leaves_name NameStart.all bs = true
 leaves_name NameStart.templates bs = refers bs
-leaves_name NameStart.locals bs = is_empty bs || next_is (these "ZTGEIPRKFAMOJXV_.") bs
+leaves_name NameStart.locals bs = is_empty bs || next_is (these "ZTGKVE_.") bs
 
 abbrev pub name_from : NameStart → Go → Bool → Here → Reply
 name_from NameStart.all go c s = names_at go c s

@@ -61,8 +61,7 @@ fn start_by(first: u8, rest: &[u8]) -> NameStart
                 NameStart::Templates
             }
         }
-        b'Z' | b'T' | b'G' | b'E' | b'I' | b'P' | b'R' | b'K' | b'F' | b'A' | b'M' | b'O' | b'J' | b'X' | b'V'
-        | b'_' | b'.' => NameStart::Locals,
+        b'Z' | b'T' | b'G' | b'K' | b'V' | b'E' | b'_' | b'.' => NameStart::Locals,
         _ => NameStart::All,
     }
 }

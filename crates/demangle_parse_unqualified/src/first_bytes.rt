@@ -59,8 +59,7 @@ fn start_by(first: u8, rest: &[u8]) -> UnqualifiedStart
     match first {
         b'0'..=b'9' | b'L' => UnqualifiedStart::Sources,
         b'C' | b'D' => UnqualifiedStart::Constructors,
-        b'U' | b'S' | b'T' | b'G' | b'N' | b'Z' | b'E' | b'I' | b'P' | b'R' | b'K' | b'F' | b'A' | b'M' | b'O' | b'J'
-        | b'X' | b'V' | b'_' | b'.' => UnqualifiedStart::Unnamed,
+        b'U' | b'S' | b'T' | b'G' | b'N' | b'Z' | b'E' | b'_' => UnqualifiedStart::Unnamed,
         _ => UnqualifiedStart::All,
     }
 }
