@@ -9,7 +9,7 @@ pub returns-in-Ok : goal.returns-in-Ok
 returns-in-Ok c =
     let answer = answer_of (outcome c.args.options.now.parse c.args.options.now.print c.args.name.now) in
     let begun = c.behind-listener.result in
-    let told = c.structured_demangle_symbol-answer.new.listener in
+    let told = c.structured_demangle_symbol-answer.new.out in
     gathered-text answer c.args.gathered.now.items begun.gathered.items told.gathered.items _ begun.refusals
     told.refusals (c.behind-listener.ensures ∙ ap (λ v. v.items) c.replace.ensures.value) c.into_gathered.ensures
     c.in-Ok.ensures.outcome
@@ -19,7 +19,7 @@ pub returns-in-Err : goal.returns-in-Err
 returns-in-Err c =
     let answer = answer_of (outcome c.args.options.now.parse c.args.options.now.print c.args.name.now) in
     let begun = c.behind-listener.result in
-    let told = c.structured_demangle_symbol-answer.new.listener in
+    let told = c.structured_demangle_symbol-answer.new.out in
     gathered-nothing answer c.args.gathered.now.items begun.gathered.items told.gathered.items _ _ begun.refusals
     told.refusals c.in-Err.fault (c.behind-listener.ensures ∙ ap (λ v. v.items) c.replace.ensures.value)
     c.into_gathered.ensures c.structured_demangle_symbol-answer.ensures.lengthens c.in-Err.ensures.outcome

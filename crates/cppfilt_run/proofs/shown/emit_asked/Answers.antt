@@ -6,7 +6,7 @@ use Rattle.cppfilt_run.proofs.shown.emit_asked.Goals as goal
 pub returns-in-Ok : goal.returns-in-Ok
 returns-in-Ok g c =
     let o = c.args.options.now in
-    let gathered = gathered-shown o c.args.bytes.now c.args.pending.now.items c.gather.new.pending.items c.requires
+    let gathered = gathered-shown o c.args.bytes.now c.args.pending.now.items c.gather.new.gathered.items c.requires
     c.in-Ok.ensures in
     rw gathered c.relieve.ensures
 
