@@ -1,7 +1,7 @@
 -- The alternatives of an expression before those with which the next bytes leave it are passed over.
 use Rattle.std.specs.Prelude.{◌≤◌, ◌&&◌, ◌||◌, ◌==◌, nat_le, length, drop, codes, if◌then◌else◌}
-use Rattle.std.proofs.Common.{◌≡◌, refl, ap, subst, ◌∙◌, ℕ, Bool, true, false, List, [], ◌∷◌, Result, Ok, Err}
-use Rattle.demangle_text.specs.Kind.{Kind, Unread, End, Text}
+use Rattle.std.proofs.Common.{◌≡◌, refl, ap, ◌∙◌, ℕ, Bool, true, false, List, [], ◌∷◌, Result, Ok, Err}
+use Rattle.demangle_text.specs.Kind.{Kind, Unread, End}
 use Rattle.demangle_text.specs.Spot.{Spot, skip}
 use Rattle.demangle_text.specs.Word.{starts, missing_word, word_at}
 use Rattle.demangle_grammar.specs.Rule.{Row, Class}
@@ -12,12 +12,12 @@ use Rattle.demangle_grammar.specs.Code.{Go, Here, Reply, Out, No, cread}
 use Rattle.demangle_grammar.specs.Parts.{worded, first_word, else_word}
 use Rattle.demangle_grammar.proofs.Truth.{both_true}
 use Rattle.demangle_forms.specs.WordForms.{either}
-use Rattle.demangle_forms.specs.ExpressionForms.{Head, prefix_words, call_words, cast_words, query_words, member_words}
+use Rattle.demangle_forms.specs.ExpressionForms.{prefix_words, call_words, cast_words, query_words, member_words}
 use Rattle.demangle_forms.specs.ExpressionForms.{prefix_word_at, call_word_at, cast_word_at, query_word_at}
 use Rattle.demangle_forms.specs.ExpressionForms.{member_word_at, expression_word_at, new_at, delete_at, plain_forms}
-use Rattle.demangle_forms.specs.ExpressionForms.{four_forms, allocation_at, global_allocation_at, operators_at}
-use Rattle.demangle_forms.specs.ExpressionForms.{references_at, names_at, fold_next, expression_at, fold_or_name_at}
-use Rattle.demangle_forms.proofs.Missed.{IsMissed, IsPassed, none_of, is_apart, end_or_one, apart_missed, no_start}
+use Rattle.demangle_forms.specs.ExpressionForms.{allocation_at, global_allocation_at, operators_at}
+use Rattle.demangle_forms.specs.ExpressionForms.{references_at, names_at, fold_next, expression_at}
+use Rattle.demangle_forms.proofs.Missed.{IsMissed, IsPassed, none_of, end_or_one, apart_missed, no_start}
 use Rattle.demangle_forms.proofs.Missed.{one_or_end, digit_or_one, row_passed, word_passed, both_passed, passed_on}
 use Rattle.demangle_parse_expressions.specs.declared.first_bytes.ExpressionStart.{ExpressionStart}
 use Rattle.demangle_parse_expressions.specs.declared.first_bytes.ExpressionStart.TheVariants as of_start
