@@ -23,4 +23,5 @@ returns-in-Err c =
     gathered-nothing answer c.args.gathered.now.items begun.gathered.items told.gathered.items _ _ begun.refusals
     told.refusals c.in-Err.fault (c.behind-listener.ensures ∙ ap (λ v. v.items) c.replace.ensures.value)
     c.into_gathered.ensures c.structured_demangle_symbol-answer.ensures.lengthens c.in-Err.ensures.outcome
-    (c.truncate.ensures.items ∙ ap (λ n. take n c.into_gathered.result.items) c.len-before.ensures)
+    (c.truncate.ensures.items
+    ∙ ap (λ n. take n c.into_gathered.result.items) (c.len-before.ensures ∙ c.args.gathered.now.ok.0))
