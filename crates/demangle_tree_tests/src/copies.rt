@@ -1,6 +1,9 @@
 //! Copies are made with ample memory, and equal what was copied.
 
-use crate::nodes::{arguments, both, boxed, function, handle, listed, mangled, name, simple_id, suffix, sum, tags, types, unqualified};
+use crate::nodes::{
+    arguments, both, boxed, function, handle, listed, mangled, name, simple_id, suffix, sum, tags,
+    types, unqualified,
+};
 use crate::worked::{class, pointer_to_int, position};
 use demangle_copies::TryClone;
 use demangle_entries::{

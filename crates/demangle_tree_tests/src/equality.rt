@@ -1,6 +1,8 @@
 //! Equality of nodes that were built apart.
 
-use crate::nodes::{are_equal, arguments, boxed, differ, function, handle, mangled, simple_id, sum, unqualified};
+use crate::nodes::{
+    are_equal, arguments, boxed, differ, function, handle, mangled, simple_id, sum, unqualified,
+};
 use demangle_text::Result;
 use demangle_tree::{
     ArrayType, BaseUnresolvedName, Decltype, Discriminator, Expression, LocalName, MangledName,

@@ -1,7 +1,10 @@
 //! The look-ups through the table.
 
 use crate::nodes::{both, boxed, function};
-use crate::worked::{class_name, constructor, conversion_to_int, destructor, int, is_class, operator_new, place, position, table_of_class, template_of_class};
+use crate::worked::{
+    class_name, constructor, conversion_to_int, destructor, int, is_class, operator_new, place,
+    position, table_of_class, template_of_class,
+};
 use demangle_text::Result;
 use demangle_tree::{
     CvQualifiers, GetLeafName, GetTemplateArgs, Identifier, IsCtorDtorConversion, LeafName,

@@ -1,7 +1,9 @@
 //! The table's calls.
 
 use crate::nodes::listed;
-use crate::worked::{class, int, is_pointer_to_int, is_type_pointer_to_int, pointer_to_int, position};
+use crate::worked::{
+    class, int, is_pointer_to_int, is_type_pointer_to_int, pointer_to_int, position,
+};
 use demangle_tree::{Substitutable, SubstitutionTable, TypeHandle};
 use std::alloc::Global;
 
