@@ -74,8 +74,13 @@ pub(crate) fn gather(
 {
     let before = gathered.len();
     let mut listener = Gathering::behind(mem::replace(gathered, Vec::new(alloc)));
-    let answer =
-        structured_demangle_symbol(alloc, name, &mut listener, &options.parse, &options.print);
+    let answer = structured_demangle_symbol(
+        alloc,
+        name,
+        &mut listener,
+        &options.parse,
+        &options.print,
+    );
     *gathered = listener.into_gathered();
     match answer {
         Ok(()) => Ok(()),

@@ -2,8 +2,10 @@
 
 use crate::listener::Noted;
 use cpp_demangle::error::{DemangleError, Error};
-use cpp_demangle::{BorrowedSymbol, DemangleOptions, OwnedSymbol, ParseOptions, SymbolFault};
-use cpp_demangle::structured_demangle_symbol;
+use cpp_demangle::{
+    BorrowedSymbol, DemangleOptions, OwnedSymbol, ParseOptions, SymbolFault,
+    structured_demangle_symbol,
+};
 use demangle_copies::TryClone;
 use std::test::Fail;
 
@@ -16,10 +18,25 @@ const TOLD: [(&[u8], u64, &str, Option<DemangleError>); 8] = [
     (b"_ZN1a1bEv", u64::MAX, "<N <P <U a>>::<U b>>()", None),
     (b"_ZN1a1bEv", 0, "<N <P <U >>>", Some(DemangleError::Sink)),
     (b"_ZN1a1bEv", 1, "<N <P <U a>>>", Some(DemangleError::Sink)),
-    (b"_ZN1a1bEv", 2, "<N <P <U a>>::<U >>", Some(DemangleError::Sink)),
-    (b"_ZN1a1bEv", 3, "<N <P <U a>>::<U b>>", Some(DemangleError::Sink)),
+    (
+        b"_ZN1a1bEv",
+        2,
+        "<N <P <U a>>::<U >>",
+        Some(DemangleError::Sink),
+    ),
+    (
+        b"_ZN1a1bEv",
+        3,
+        "<N <P <U a>>::<U b>>",
+        Some(DemangleError::Sink),
+    ),
     (b"_Z1fv", 0, "<U >", Some(DemangleError::Sink)),
-    (b"_Z1fIiEvT_", u64::MAX, "void <U f><<A int>>(<T int>)", None),
+    (
+        b"_Z1fIiEvT_",
+        u64::MAX,
+        "void <U f><<A int>>(<T int>)",
+        None,
+    ),
     (
         b"_Z1fT_",
         u64::MAX,
@@ -36,12 +53,18 @@ fn symbols_are_read_and_printed(rt: HostRuntime) -> Result<(), Fail> {
     let deep = ParseOptions::default().recursion_limit(1024);
     let owned = OwnedSymbol::new_with_options(rt.alloc(), NAME.to_vec(rt.alloc())?, &deep)?;
     let options = DemangleOptions::new().recursion_limit(1024);
-    assert_eq!(rt; owned.demangle_with_options(rt.alloc(), &options)?.as_str(), TEXT);
+    assert_eq!(rt;
+        owned.demangle_with_options(rt.alloc(), &options)?.as_str(),
+        TEXT
+    );
     assert!(rt; owned.parsed() == symbol.parsed());
     assert!(rt; owned.try_clone(rt.alloc())? == owned);
     assert!(rt; symbol.try_clone(rt.alloc())? == symbol);
     let other = BorrowedSymbol::new(rt.alloc(), b"_ZN5space3fooEii".as_slice())?;
-    assert_eq!(rt; other.demangle(rt.alloc())?.as_str(), "space::foo(int, int)");
+    assert_eq!(rt;
+        other.demangle(rt.alloc())?.as_str(),
+        "space::foo(int, int)"
+    );
     assert!(rt; other != symbol);
     Ok(())
 }
@@ -56,7 +79,10 @@ fn a_tail_is_left(rt: HostRuntime) -> Result<(), Fail> {
     let (deeper, other) = BorrowedSymbol::with_tail_and_options(rt.alloc(), input, &deep)?;
     assert!(rt; deeper == symbol);
     assert_eq!(rt; other, tail);
-    assert_eq!(rt; BorrowedSymbol::new(rt.alloc(), input).err(), Some(Error::UnexpectedText));
+    assert_eq!(rt;
+        BorrowedSymbol::new(rt.alloc(), input).err(),
+        Some(Error::UnexpectedText)
+    );
     Ok(())
 }
 
@@ -85,7 +111,11 @@ fn listeners_are_told_of_nodes(rt: HostRuntime) -> Result<(), Fail> {
         let mut out = Noted::failing_at(rt.alloc(), fails_at);
         let parse = ParseOptions::default();
         let told = structured_demangle_symbol(rt.alloc(), name, &mut out, &parse, &print);
-        assert_eq!(rt; told.err(), fault.map(SymbolFault::Print), "at {name:?} with {fails_at}");
+        assert_eq!(rt;
+            told.err(),
+            fault.map(SymbolFault::Print),
+            "at {name:?} with {fails_at}"
+        );
         assert_eq!(rt; out.text(), text, "at {name:?} with {fails_at}");
     }
     Ok(())

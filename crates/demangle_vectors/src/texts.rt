@@ -101,10 +101,7 @@ const TEXTS: [(&[u8], &str); 48] = [
 ];
 
 /// Two names of which the one refers to a component where the other spells it again.
-const SHARED: [(&[u8], &[u8]); 2] = [
-    (b"_Z1fP1aS0_", b"_Z1fP1aP1a"),
-    (b"_Z1fP1aS_", b"_Z1fP1a1a"),
-];
+const SHARED: [(&[u8], &[u8]); 2] = [(b"_Z1fP1aS0_", b"_Z1fP1aP1a"), (b"_Z1fP1aS_", b"_Z1fP1a1a")];
 
 /// What a name becomes under the options by default.
 pub(crate) fn demangled(alloc: Global, name: &[u8]) -> Result<String, SymbolFault> {
@@ -116,11 +113,19 @@ pub(crate) fn demangled(alloc: Global, name: &[u8]) -> Result<String, SymbolFaul
 fn names_have_their_texts(rt: HostRuntime) {
     for (name, text) in BUILTINS {
         let answer = demangled(rt.alloc(), name);
-        assert_eq!(rt; answer.as_ref().map(|text| text.as_str()), Ok(text), "at {name:?}");
+        assert_eq!(rt;
+            answer.as_ref().map(|text| text.as_str()),
+            Ok(text),
+            "at {name:?}"
+        );
     }
     for (name, text) in TEXTS {
         let answer = demangled(rt.alloc(), name);
-        assert_eq!(rt; answer.as_ref().map(|text| text.as_str()), Ok(text), "at {name:?}");
+        assert_eq!(rt;
+            answer.as_ref().map(|text| text.as_str()),
+            Ok(text),
+            "at {name:?}"
+        );
     }
 }
 
