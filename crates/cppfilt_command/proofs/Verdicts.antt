@@ -1,8 +1,7 @@
 -- What a call of the command says of the words.
-use Rattle.std.proofs.Common.{◌≡◌, ◌⊎◌, inl, inr, ◌≤◌, true, false, List, [], ◌∷◌, length, refl, sym, ap, ◌∙◌, arith}
-use Rattle.std.specs.Prelude.{Result, Ok, Err}
+use Rattle.std.proofs.Common.{◌≡◌, inl, inr, true, false, List, [], ◌∷◌, refl, sym, ap, ◌∙◌, arith}
 use Rattle.clap.specs.Faults.{fault_of, is_simple_and_free}
-use Rattle.clap.specs.Kinds.{FailsBy, HasKind, IsAmong, Kinds}
+use Rattle.clap.specs.Kinds.{HasKind, Kinds}
 use Rattle.clap.specs.Simple.{argument_words, built, is_simple, matches_of}
 use Rattle.clap.specs.Values.{kind_of}
 use Rattle.clap.specs.Walk.{Row, Text, nothing_held}
@@ -10,7 +9,7 @@ use Rattle.clap.specs.declared.error.Error.{Error}
 use Rattle.clap.specs.declared.error.kind.ErrorKind.{ErrorKind}
 use Rattle.clap.specs.declared.error.kind.ErrorKind.TheVariants as kind
 use Rattle.clap.proofs.OnLiterals.{clap_on_literals}
-use Rattle.cppfilt_command.specs.Asked.{Verdict, AsksHelp, Mistaken, Asks, judged, judgement, has_good_numbers}
+use Rattle.cppfilt_command.specs.Asked.{Mistaken, Asks, judged, judgement, has_good_numbers}
 use Rattle.cppfilt_command.specs.Asked.{options_in, work_in}
 use Rattle.cppfilt_command.specs.Command.{command}
 use Rattle.cppfilt_command.specs.Kinds.{IsOfKind}

@@ -1,5 +1,5 @@
 -- What the code answers, as the definitions see it.
-use Rattle.std.specs.Prelude.{◌≡◌, ⊤, ℕ, List, map}
+use Rattle.std.specs.Prelude.{◌≡◌, ⊤, map}
 use Rattle.cppfilt_lines.specs.Work.{Work, lines, names, sample}
 use Rattle.cppfilt_command.specs.Asked.{Verdict, Mistaken, AsksHelp}
 use Rattle.cppfilt_command.specs.declared.refusal.Refusal.{Refusal}

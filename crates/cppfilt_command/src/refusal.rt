@@ -1,6 +1,6 @@
 //! Why words ask for no task.
 
-ghost use Rattle.std.specs.Prelude.{◌≡◌, ⊤};
+ghost use Rattle.std.specs.Prelude.{◌≡◌};
 ghost use Rattle.clap.specs.Words.{kind_of};
 ghost use Rattle.cppfilt_command.specs.Asked.{Mistaken};
 ghost use Rattle.cppfilt_command.specs.Kinds.{IsOfKind};

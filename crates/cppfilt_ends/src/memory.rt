@@ -1,6 +1,6 @@
 //! A source and a sink in memory. They tell their bytes, and fail for no cause but memory.
 
-ghost use Rattle.std.specs.Prelude.{◌≡◌, ◌≤◌, Some, None, List, [], drop, vec_len, length};
+ghost use Rattle.std.specs.Prelude.{◌≡◌, ◌≤◌, Some, [], drop, length};
 
 use crate::ends::{Failed, Sink, Source};
 use demangle_context::SinkFault;

@@ -1,21 +1,18 @@
 -- The name of a text: the ordered reading's tree, from the laws of the grammar.
 use Rattle.std.proofs.Common.{◌≡◌, ℕ, ◌-◌, List, [], ◌∷◌, ◌++◌, refl, sym, ap, ◌∙◌, append-nil, false}
-use Rattle.demangle_text.specs.Kind.{Kind}
-use Rattle.demangle_core.specs.Core.{Core}
-use Rattle.demangle_core.specs.Table.{Table, empty_table}
+use Rattle.demangle_core.specs.Table.{empty_table}
 use Rattle.demangle_grammar.specs.Rule.{Row}
 use Rattle.demangle_grammar.specs.Tree.{Tree, trees, nil, spell, core}
 use Rattle.demangle_grammar.specs.Reading.{State, Answer, Yes, No, Deep, read_from}
-use Rattle.demangle_grammar.specs.Code.{Reply, cread, here}
+use Rattle.demangle_grammar.specs.Code.{cread, here}
 use Rattle.demangle_grammar.specs.Laws.{Reads, from, cored}
-use Rattle.demangle_grammar.specs.Seen.{seen, replied}
+use Rattle.demangle_grammar.specs.Seen.{replied}
 use Rattle.demangle_grammar.proofs.Bridge.{reads_code}
 use Rattle.demangle_grammar.proofs.Cores.{reads_cores}
 use Rattle.demangle_grammar.proofs.Fit.{is_fit}
 use Rattle.demangle_grammar.proofs.Readings.{spelled, sound}
-use Rattle.demangle_printing.specs.Outcome.{Options, Outcome, Shown, outcome, outcome_of, printed}
+use Rattle.demangle_printing.specs.Outcome.{Options, Shown, outcome, printed}
 use Rattle.demangle_printing.specs.Outcome.{after_reading, when_read}
-use Rattle.demangle_printing.specs.Trees.{with_table}
 use Rattle.std.specs.Prelude.{Option, Some, None, IfSome}
 use Rattle.std.specs.List.{All, slice_index_or}
 use Rattle.cppfilt_lines.specs.Named.{IsNamed, IsNamedWhenShown}

@@ -1,5 +1,5 @@
 -- What a line's bytes become: their text where they are asked and have one, else they stay.
-use Rattle.std.specs.Prelude.{ℕ, Bool, true, false, ◌&&◌, ◌||◌, List, [], ◌∷◌, ◌++◌, length, nat_le, nat_eq, codes}
+use Rattle.std.specs.Prelude.{ℕ, Bool, true, false, ◌&&◌, ◌||◌, List, ◌∷◌, ◌++◌, length, nat_le, nat_eq, codes}
 use Rattle.std.specs.Prelude.{if◌then◌else◌}
 use Rattle.std.specs.List.{starts_with}
 use Rattle.demangle_text.specs.Kind.{Kind, Unread, Deep, Other, End, Text, Bad, Over}

@@ -1,9 +1,8 @@
 -- Laws on a whole run: what holds of it by how it ended before its message, and by what was reported then.
 use Rattle.std.proofs.Common.{◌≡◌, ◌⊎◌, inl, inr, ℕ, ◌+◌, ◌-◌, ◌^◌, ◌<◌, ◌≤◌, false, List, [], length, take, sym, ◌∙◌}
 use Rattle.std.proofs.Common.{subst}
-use Rattle.std.proofs.Common.{arith, refl, get_or}
-use Rattle.std.specs.Prelude.{Option, Some, None, IfSome}
-use Rattle.std.specs.List.{All}
+use Rattle.std.proofs.Common.{arith, refl}
+use Rattle.std.specs.Prelude.{Option, IfSome}
 use Rattle.std.specs.Io.KnownBytes.{Appends, IsAtEnd}
 use Rattle.cppfilt_command.specs.Asked.{Verdict, Mistaken, AsksHelp, Asks}
 use Rattle.cppfilt_ends.specs.Causes.{Rose, NoFault}
@@ -15,7 +14,7 @@ use Rattle.cppfilt_lines.specs.Sample.{summary}
 use Rattle.cppfilt_lines.specs.Work.{Work, lines, names, sample, due_for, input_for}
 use Rattle.cppfilt_lines.specs.declared.options.FilterOptions.{FilterOptions}
 use Rattle.cppfilt_run.specs.Outcome.{Finished, KeepsUp, OfTaken, Stopped}
-use Rattle.cppfilt_run.specs.Ran.{Ended, Helped, Performed, Ran, Unread, reads}
+use Rattle.cppfilt_run.specs.Ran.{Ended, Helped, Ran, Unread, reads}
 use Rattle.cppfilt_run.specs.declared.status.Status.{Status}
 use Rattle.cppfilt_run.specs.declared.status.Status.TheVariants.{Done, Help, Usage, ReadFault, WriteFault}
 use Rattle.cppfilt_run.specs.declared.status.Status.TheVariants.{InputTooLong}

@@ -1,5 +1,5 @@
 -- What a run did, by the verdict on its words.
-use Rattle.std.specs.Prelude.{◌≡◌, ◌⊎◌, ℕ, ◌+◌, ◌^◌, ◌≤◌, Bool, true, false, List, Option}
+use Rattle.std.specs.Prelude.{◌≡◌, ◌⊎◌, ℕ, ◌^◌, ◌≤◌, Bool, false, List, Option}
 use Rattle.cppfilt_command.specs.Asked.{Verdict, Mistaken, AsksHelp, Asks}
 use Rattle.cppfilt_ends.specs.Causes.{Rose}
 use Rattle.cppfilt_lines.specs.Due.{due_names}

@@ -1,9 +1,9 @@
 //! A sample of names, demangled and counted.
 
-ghost use Rattle.std.specs.Prelude.{◌≡◌, ◌≤◌, ◌+◌, ◌%◌, ◌∷◌, [], ◌++◌, length, sum_by, codes, OnOk, IfOk};
+ghost use Rattle.std.specs.Prelude.{◌≡◌, ◌+◌, ◌%◌, ◌++◌, OnOk, IfOk};
 ghost use Rattle.std.specs.Fmt.{decimal};
 ghost use Rattle.demangle_printing.specs.Outcome.{outcome};
-ghost use Rattle.cppfilt_lines.specs.Sample.{copies, sample_name, sample_texts, source_name, summary, text_in, type_at};
+ghost use Rattle.cppfilt_lines.specs.Sample.{copies, sample_name, source_name, summary, text_in, type_at};
 ghost use Rattle.cppfilt_lines.specs.Sample.{types_from};
 ghost use Rattle.cppfilt_run.specs.Counted.{Counted, IsLength};
 ghost use Rattle.cppfilt_run.specs.Outcome.{Finished};

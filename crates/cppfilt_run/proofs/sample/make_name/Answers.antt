@@ -1,4 +1,3 @@
-use Rattle.std.proofs.Common.{codes, ap, ◌∙◌, ◌++◌}
 use Rattle.std.proofs.lemmas.Result.{on_ok_weaker}
 use Rattle.cppfilt_run.proofs.SampleLaws.{name-made}
 use Rattle.cppfilt_run.proofs.sample.make_name.Goals as goal

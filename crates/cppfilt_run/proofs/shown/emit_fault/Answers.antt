@@ -1,5 +1,5 @@
 use Rattle.std.proofs.Common.{refl, ◌∙◌, ap, sym}
-use Rattle.cppfilt_ends.proofs.MoveLaws.{begins-none, refusal-none}
+use Rattle.cppfilt_ends.proofs.MoveLaws.{begins-none}
 use Rattle.cppfilt_lines.specs.Shown.{refused}
 use Rattle.cppfilt_run.proofs.shown.emit_fault.Goals as goal
 
