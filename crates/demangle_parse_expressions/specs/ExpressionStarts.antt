@@ -1,5 +1,5 @@
--- With which of its alternatives the next bytes leave an expression: those before can't begin with them, and aren't tried
--- where levels enough are left.
+-- With which of its alternatives the next bytes leave an expression: those before can't begin with them, and aren't
+-- tried where levels enough are left.
 use Rattle.std.specs.Prelude.{Bool, true, ◌||◌, List, ℕ}
 use Rattle.demangle_core.specs.Core.{Tag}
 use Rattle.demangle_grammar.specs.Rule.{Class, Row}

@@ -1,4 +1,5 @@
-//! With which alternatives the next bytes leave an expression: those before can't begin with them, and needn't be tried.
+//! With which alternatives the next bytes leave an expression: those before can't begin with them, and needn't be
+//! tried.
 
 ghost use Rattle.std.specs.Prelude.{◌≡◌, true, ◌∷◌};
 ghost use Rattle.demangle_text.specs.Spot.{spot};
