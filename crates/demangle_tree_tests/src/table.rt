@@ -1,10 +1,9 @@
 //! The table's calls.
 
-use crate::nodes::listed;
-use crate::worked::{
-    class, int, is_pointer_to_int, is_type_pointer_to_int, pointer_to_int, position,
-};
 use demangle_tree::{Substitutable, SubstitutionTable, TypeHandle};
+use demangle_tree_samples::{
+    class, int, is_pointer_to_int, is_type_pointer_to_int, listed, pointer_to_int, position,
+};
 use std::alloc::Global;
 
 fn count_pointers(subs: &SubstitutionTable) -> usize {
