@@ -1,5 +1,10 @@
 //! Copies are made with ample memory, and equal what was copied.
 
+use crate::nodes::{
+    arguments, both, boxed, function, handle, listed, mangled, name, simple_id, suffix, sum, tags,
+    types, unqualified,
+};
+use crate::worked::{class, pointer_to_int, position};
 use demangle_copies::TryClone;
 use demangle_entries::{
     ArrayType, BaseUnresolvedName, ClassEnumType, ClosureTypeName, CvQualifiers, Decltype,
@@ -10,10 +15,6 @@ use demangle_entries::{
 };
 use demangle_table::SubstitutionTable;
 use demangle_text::Result;
-use demangle_tree_samples::{
-    arguments, both, boxed, class, function, handle, listed, mangled, name, pointer_to_int,
-    position, simple_id, suffix, sum, tags, types, unqualified,
-};
 use demangle_vocab::{RefQualifier, SimpleOperatorName};
 use std::alloc::Global;
 

@@ -1,8 +1,8 @@
 //! Inner items: what node each borrows.
 
+use crate::worked::int;
 use demangle_scope::InnerItem;
 use demangle_tree::{CvQualifiers, PointerToMemberType, TypeNode};
-use demangle_tree_samples::int;
 
 // Whether the test holds of the value, which is dropped here.
 fn holds<A: Drop, T: Fn(&A) -> bool>(value: A, test: T) -> bool

@@ -1,11 +1,12 @@
 //! Scopes: the look-ups, and the mark of a list.
 
+use crate::nodes::{both, handle};
+use crate::worked::int;
 use demangle_scope::{
     ArgScopeStack, ScopeItem, scope_in_arg, scope_leaf_name, scope_push, scope_template_arg,
 };
 use demangle_text::{Error, Result};
 use demangle_tree::{Identifier, LeafName, SourceName, TemplateArg, TemplateArgs, TypeHandle};
-use demangle_tree_samples::{both, handle, int};
 use std::alloc::Global;
 
 // Both values as a list. What is dropped where memory is wanting is dropped here.
