@@ -100,7 +100,7 @@ told_fault (yes m s) f e = absurd (none_not_some e)
 told_fault (no m g) f e = ap NotPrinted (let h : g ≡ f = cc in h)
 
 -- each fault is one of a tree
-of_tree : (f : Fault) → is_of_tree (error_at f) ≡ true
+pub of_tree : (f : Fault) → is_of_tree (error_at f) ≡ true
 of_tree BadTemplateArgReference = refl
 of_tree ForwardTemplateArgReference = refl
 of_tree BadLeafNameReference = refl
@@ -118,7 +118,7 @@ module _ (limit : ℕ) (o : Options) (bytes : List ℕ) (x : Core) (table : Tabl
       (outcome_found limit o bytes x table end found
       ∙ told_text (printed (with_table table bytes) o x) (string_bytes text) d.0 d.1)
 
-  fault_as : (e : DemangleError) → Meets (told (printed (with_table table bytes) o x)) e →
+  pub fault_as : (e : DemangleError) → Meets (told (printed (with_table table bytes) o x)) e →
       answer_of (outcome limit o bytes) ≡ Err (fault.Print e)
   fault_as e d =
       ap answer_of

@@ -1,8 +1,6 @@
 -- From what the line of a name's tree answers, in a context that has just begun, to what is told.
 use Rattle.std.specs.Prelude.{◌≡◌, ℕ, ◌+◌, ◌-◌, List, [], ◌++◌, Some, None, Ok, Err}
-use Rattle.std.specs.Prelude.{String, string_bytes}
-use Rattle.std.specs.declared.alloc.Global.{Global}
-use Rattle.std.proofs.Common.{refl, sym, subst, ap, ◌∙◌, arith, inl, inr, ⊎_elim}
+use Rattle.std.proofs.Common.{refl, sym, subst, ap, ◌∙◌, arith, inl, inr}
 use Rattle.demangle_core.specs.Core.{Core}
 use Rattle.demangle_nodes.specs.declared.nodes.MangledName.{MangledName}
 use Rattle.demangle_nodes.specs.declared.nodes.MangledName.TheVariants as of_mangled_name
@@ -14,12 +12,12 @@ use Rattle.demangle_printing.specs.Act.{line}
 use Rattle.demangle_printing.specs.Print.{print}
 use Rattle.demangle_printing.specs.Rules.{of_part}
 use Rattle.demangle_printing.specs.Trees.{with_table}
-use Rattle.demangle_printing.specs.Outcome.{Options, printed, text_of, first_state}
+use Rattle.demangle_printing.specs.Outcome.{Options, printed, first_state}
 use Rattle.demangle_printing.specs.Laws.{AreClosed, open_behind, told, IsFitting}
-use Rattle.demangle_meets.specs.Seen.{Seen, Grows, Told}
+use Rattle.demangle_meets.specs.Seen.{Seen, Told}
 use Rattle.demangle_meets.specs.Page.{Page}
 use Rattle.demangle_meets.specs.Place.{Refers, world_of}
-use Rattle.demangle_meets.specs.Goes.{events, ends, Rose}
+use Rattle.demangle_meets.specs.Goes.{events, ends}
 use Rattle.demangle_meets.proofs.Heard.{told_nothing}
 use Rattle.demangle_context.specs.PageOf.{page, page_of}
 use Rattle.demangle_context.specs.View.{View, view, first_view}
@@ -32,7 +30,7 @@ use Rattle.demangle_print_below.specs.PageOf as below
 use Rattle.demangle_print_below.specs.PlaceOf.{place_in}
 use Rattle.demangle_print.specs.Demangled.{Reply, state, line_at, printed_line, Answers, Demangled}
 use Rattle.demangle_print.specs.Demangled as print
-use Rattle.cpp_demangle.specs.Telling.{Telling, telling, Breaks, Stops, Ends, Tells, Meets, IsText}
+use Rattle.cpp_demangle.specs.Telling.{Telling, telling, Breaks, Stops, Ends, Tells}
 
 -- ---- where printing begins
 -- the page of a context that has just begun
@@ -75,7 +73,7 @@ module _ (old new : Seen) (x : Answer Core) where
       (told x).1 ≡ None × Told old new (told x).0
   all_told m s e t = (ap (λ v. (told v).1) e, subst (Told old new) (sym (ap (λ v. (told v).0) e)) t)
 
-pub breaks_so : {a b : Page} {x : Answer Core} → print.Breaks a b x → Breaks a.seen b.seen (told x)
+breaks_so : {a b : Page} {x : Answer Core} → print.Breaks a b x → Breaks a.seen b.seen (told x)
 breaks_so {a} {b} {x} d =
     record {
       front = d.front;
@@ -182,29 +180,3 @@ tells_nothing seen limit t =
       faults = λ n. refl;
       refusals = λ n. refl;
     }
-
--- ---- a text
--- Where the listener never fails and told its text before, which was empty, and tells it now.
-pub never_rose : {A : Type 0} → Rose 0 0 → A
-never_rose r = ⊎_elim (λ l. absurd (omega (arith, l))) (λ e. absurd (omega (arith, e))) r
-
-meets_so : {old new : Seen} {t : Telling} {e : DemangleError} → Stops old new t e → Meets t e
-meets_so d = record { fault = d.fault; is = d.is; met = d.met }
-
-pub text_meets : (old new : Seen) (limit : ℕ) (t : Telling) (e : DemangleError) → old.faults ≡ 0 → new.faults ≡ 0 →
-    Tells old new limit t (Err e) → IsText t (Err e)
-text_meets old new limit t error.Sink p q d =
-    never_rose (subst (λ n. Rose n 0) p (subst (λ n. Rose old.faults n) q d.ends.rose))
-text_meets old new limit t error.OutOfMemory p q d = tt
-text_meets old new limit t error.TooMuchRecursion p q d = meets_so d.ends
-text_meets old new limit t error.TooLong p q d = meets_so d.ends
-text_meets old new limit t error.NotUtf8 p q d = meets_so d.ends
-text_meets old new limit t (error.Reference e) p q d = meets_so d.ends
-
-pub text_told : (old new : Seen) (limit : ℕ) (t : Telling) (v : Unit {0}) (text : String Global) →
-    old.text ≡ Some [] → new.text ≡ Some (string_bytes text) → Tells old new limit t (Ok v) → IsText t (Ok text)
-text_told old new limit t v text p q d = (
-  d.ends.no_fault,
-  subst (λ n. Grows (Some []) n (text_of t.0)) q
-      (subst (λ n. Grows n new.text (text_of t.0)) p d.ends.told.text),
-)

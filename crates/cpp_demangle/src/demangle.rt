@@ -1,8 +1,9 @@
 //! From a name's bytes to its text.
 
-ghost use Rattle.std.specs.Prelude.{◌≡◌, true, IfErr};
+ghost use Rattle.std.specs.Prelude.{◌≡◌, true, IfOk, IfErr, string_bytes};
 ghost use Rattle.demangle_printing.specs.Outcome.{outcome};
 ghost use Rattle.cpp_demangle.specs.Answer.{fault_text, answer_of, IsAnswer, may_come, read_fault, print_fault};
+ghost use Rattle.cpp_demangle.specs.OneName.{HasText, SharesInvisibly, DeclaresPlain};
 
 use crate::reading::read_whole;
 use crate::telling::text;
@@ -37,7 +38,7 @@ impl SymbolFault {
 }
 
 /// What an error of reading is to a name's text.
-fn read_fault(error: Error) -> SymbolFault
+pub(crate) fn read_fault(error: Error) -> SymbolFault
     ensures { result ≡ read_fault error }
 {
     match error {
@@ -47,7 +48,7 @@ fn read_fault(error: Error) -> SymbolFault
 }
 
 /// What an error of printing is to a name's text.
-fn print_fault(error: DemangleError) -> SymbolFault
+pub(crate) fn print_fault(error: DemangleError) -> SymbolFault
     ensures { result ≡ print_fault error }
 {
     match error {
@@ -56,11 +57,8 @@ fn print_fault(error: DemangleError) -> SymbolFault
     }
 }
 
-/// The text of a linker name, whole.
-///
-/// `Read` comes exactly where the name isn't one, by what its reading meets, `Print` exactly where it is one and the
-/// printing of its tree meets a fault, and `OutOfMemory` where there is no memory.
-pub fn demangle_symbol(
+/// The text of a linker name, or why it has none.
+fn answer(
     alloc: Global,
     bytes: &[u8],
     parse: &ParseOptions,
@@ -80,4 +78,23 @@ pub fn demangle_symbol(
         }
         Err(error) => Err(read_fault(error)),
     }
+}
+
+/// The text of a linker name, whole.
+///
+/// `Read` comes exactly where the name isn't one, by what its reading meets, `Print` exactly where it is one and the
+/// printing of its tree meets a fault, and `OutOfMemory` where there is no memory.
+pub fn demangle_symbol(
+    alloc: Global,
+    bytes: &[u8],
+    parse: &ParseOptions,
+    print: &DemangleOptions,
+) -> Result<String, SymbolFault>
+    ensures outcome { IsAnswer (answer_of (outcome parse.now print.now bytes.now)) result }
+    ensures causes { IfErr result (λ e. may_come e ≡ true) }
+    ensures named { IfOk result (λ text. HasText parse.now print.now bytes.now (string_bytes text)) }
+    ensures shared { SharesInvisibly parse.now print.now bytes.now result }
+    ensures declared { DeclaresPlain parse.now bytes.now result }
+{
+    answer(alloc, bytes, parse, print)
 }

@@ -1,13 +1,17 @@
 pub mod Alternatives
+pub mod Missed
 pub mod WordLaws
 pub mod Lasting
 pub mod Loops
 pub mod Turns
 pub mod TypeLaws
+pub mod TypeStarts
 pub mod BuiltinLaws
 pub mod ArgLaws
 pub mod NameLaws
+pub mod NameStarts
 pub mod UnqualifiedLaws
+pub mod UnqualifiedStarts
 pub mod SpecialLaws
 pub mod MangledLaws
 pub mod ExpressionLaws

@@ -4,6 +4,7 @@ pub mod BuiltinForms
 pub mod ArgForms
 pub mod NameForms
 pub mod UnqualifiedForms
+pub mod Starts
 pub mod SpecialForms
 pub mod MangledForms
 pub mod ExpressionForms

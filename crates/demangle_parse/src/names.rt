@@ -19,9 +19,11 @@ use demangle_entries::{
 };
 use demangle_leaf_rows::ParseContext;
 use demangle_parse_names::{
-    closure_type_name, ctor_dtor_name, global_ctor_dtor, lambda_sig, local_name, nested_name,
-    operator_name, prefix_handle, special_name, unqualified_name, unscoped_name,
+    global_ctor_dtor, local_name, nested_name, prefix_handle, special_name, unscoped_name,
     unscoped_template_name_handle,
+};
+use demangle_parse_unqualified::{
+    closure_type_name, ctor_dtor_name, lambda_sig, operator_name, unqualified_name,
 };
 use demangle_row_parts::data_member_prefix;
 use demangle_table::SubstitutionTable;

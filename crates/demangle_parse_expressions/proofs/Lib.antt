@@ -1,2 +1,3 @@
+pub mod ExpressionStarts
 pub mod MissingWords
 pub mod RowsRead

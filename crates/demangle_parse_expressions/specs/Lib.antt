@@ -1,1 +1,2 @@
+pub mod ExpressionStarts
 pub mod MemberNames

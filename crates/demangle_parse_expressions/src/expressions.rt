@@ -9,9 +9,11 @@ ghost use Rattle.demangle_grammar.specs.Code.{close, cread, here};
 ghost use Rattle.demangle_forms.specs.ExpressionForms.{expression_at, names_at, references_at, worded_at};
 ghost use Rattle.demangle_answers.specs.Reads.{Reads, ReadsRow};
 ghost use Rattle.demangle_row_parts.specs.ExpressionWords.{head_of_word};
+ghost use Rattle.demangle_parse_expressions.specs.ExpressionStarts.{literals_at, parameters_at};
 
 use crate::calls::calls;
 use crate::casts::{cast, of_expression, of_type};
+use crate::first_bytes::{ExpressionStart, expression_start};
 use crate::folds::fold_expr;
 use crate::members::members;
 use crate::news::{allocation, global_allocation};
@@ -52,9 +54,32 @@ pub fn expression_by<'b, B: Below>(
     Ok((expression, rest))
 }
 
+/// The alternatives of an expression, behind its level, from the first one on that the next bytes leave.
+#[tactic(auto)]
+fn alternatives<'b, B: Below>(
+    below: B,
+    alloc: Global,
+    depth: Depth,
+    subs: &mut SubstitutionTable,
+    input: IndexStr<'b>,
+) -> Result<(Expression, IndexStr<'b>)>
+    requires can { B.can below }
+    requires room { depth.levels < B.most below }
+    ensures { Reads tree_of_expression result (table_of subs.old) (table_of subs.new)
+        (expression_at (cread depth.levels) depth.conversion (here (spot input.entry) (table_of subs.old))) }
+{
+    match expression_start(depth, input) {
+        ExpressionStart::All => any_expression(below, alloc, depth, subs, input),
+        ExpressionStart::Parameters => parameters(below, alloc, depth, subs, input),
+        ExpressionStart::References => references(below, alloc, depth, subs, input),
+        ExpressionStart::Literals => literals(below, alloc, depth, subs, input),
+        ExpressionStart::Operators => operators(below, alloc, depth, subs, input),
+    }
+}
+
 /// All alternatives of an expression.
 #[tactic(auto, using(demangle_nodes::proofs::Parts::expression_fold), unfolding(demangle_forms::specs::ExpressionForms::expression_at))]
-fn alternatives<'b, B: Below>(
+fn any_expression<'b, B: Below>(
     below: B,
     alloc: Global,
     depth: Depth,
@@ -117,8 +142,8 @@ fn worded<'b, B: Below>(
     }
 }
 
-/// New and delete, parameters, and what comes after these.
-#[tactic(auto, using(demangle_nodes::proofs::Parts::expression_template_param, demangle_nodes::proofs::Parts::expression_function_param), unfolding(demangle_forms::specs::ExpressionForms::names_at))]
+/// New and delete, and what comes after these.
+#[tactic(auto, unfolding(demangle_forms::specs::ExpressionForms::names_at, crate::specs::ExpressionStarts::parameters_at))]
 fn names<'b, B: Below>(
     below: B,
     alloc: Global,
@@ -140,6 +165,24 @@ fn names<'b, B: Below>(
         Ok(found) => return Ok(found),
         Err(_) => {}
     }
+    let (expression, rest) = parameters(below, alloc, depth, subs, input)?;
+    Ok((expression, rest))
+}
+
+/// Parameters, and what comes after these.
+#[tactic(auto, using(demangle_nodes::proofs::Parts::expression_template_param, demangle_nodes::proofs::Parts::expression_function_param), unfolding(crate::specs::ExpressionStarts::parameters_at))]
+fn parameters<'b, B: Below>(
+    below: B,
+    alloc: Global,
+    depth: Depth,
+    subs: &mut SubstitutionTable,
+    input: IndexStr<'b>,
+) -> Result<(Expression, IndexStr<'b>)>
+    requires can { B.can below }
+    requires room { depth.levels < B.most below }
+    ensures { Reads tree_of_expression result (table_of subs.old) (table_of subs.new)
+        (parameters_at (cread depth.levels) depth.conversion (here (spot input.entry) (table_of subs.old))) }
+{
     if let Ok((param, rest)) = passed(TemplateParam::read_leaf(depth, input))? {
         return Ok((Expression::TemplateParam(param), rest));
     }
@@ -150,8 +193,8 @@ fn names<'b, B: Below>(
     Ok((expression, rest))
 }
 
-/// Unresolved names, literals and entities, and operators with their operands.
-#[tactic(auto, using(demangle_nodes::proofs::Parts::expression_unresolved_name, demangle_nodes::proofs::Parts::expression_primary), unfolding(demangle_forms::specs::ExpressionForms::references_at))]
+/// Unresolved names, and what comes after these.
+#[tactic(auto, using(demangle_nodes::proofs::Parts::expression_unresolved_name), unfolding(demangle_forms::specs::ExpressionForms::references_at, crate::specs::ExpressionStarts::literals_at))]
 fn references<'b, B: Below>(
     below: B,
     alloc: Global,
@@ -168,6 +211,24 @@ fn references<'b, B: Below>(
         Ok((name, rest)) => return Ok((Expression::UnresolvedName(name), rest)),
         Err(_) => {}
     }
+    let (expression, rest) = literals(below, alloc, depth, subs, input)?;
+    Ok((expression, rest))
+}
+
+/// Literals and entities, and operators with their operands.
+#[tactic(auto, using(demangle_nodes::proofs::Parts::expression_primary), unfolding(crate::specs::ExpressionStarts::literals_at))]
+fn literals<'b, B: Below>(
+    below: B,
+    alloc: Global,
+    depth: Depth,
+    subs: &mut SubstitutionTable,
+    input: IndexStr<'b>,
+) -> Result<(Expression, IndexStr<'b>)>
+    requires can { B.can below }
+    requires room { depth.levels < B.most below }
+    ensures { Reads tree_of_expression result (table_of subs.old) (table_of subs.new)
+        (literals_at (cread depth.levels) depth.conversion (here (spot input.entry) (table_of subs.old))) }
+{
     match passed(expr_primary(below, alloc, depth, subs, input))? {
         Ok((primary, rest)) => return Ok((Expression::Primary(primary), rest)),
         Err(_) => {}

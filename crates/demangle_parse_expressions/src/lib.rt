@@ -5,6 +5,7 @@
 mod calls;
 mod casts;
 mod expressions;
+mod first_bytes;
 mod folds;
 mod lists;
 mod members;

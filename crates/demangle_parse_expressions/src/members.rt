@@ -21,8 +21,8 @@ use demangle_entries::{
     UnqualifiedName, UnscopedName,
 };
 use demangle_leaf_rows::{Depth, ReadLeaf};
-use demangle_parse_names::unqualified_name;
 use demangle_parse_types::{all_arguments, boxed_expression, template_args};
+use demangle_parse_unqualified::unqualified_name;
 use demangle_row_parts::{AccessWord, MemberWord, subobject_offset};
 use demangle_table::SubstitutionTable;
 use demangle_text::{IndexStr, Result, consume};

@@ -15,8 +15,8 @@ use demangle_entries::{
     UnresolvedQualifierLevel, UnresolvedType, UnresolvedTypeHandle,
 };
 use demangle_leaf_rows::{Depth, ReadLeaf, substitution};
-use demangle_parse_names::operator_name;
 use demangle_parse_types::{decltype, optional_template_args};
+use demangle_parse_unqualified::operator_name;
 use demangle_row_parts::unresolved_type_of;
 use demangle_table::SubstitutionTable;
 use demangle_text::{IndexStr, Result, consume};

@@ -1,1 +1,2 @@
+pub mod NameStarts
 pub mod Words

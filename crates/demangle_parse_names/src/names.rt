@@ -1,20 +1,25 @@
 //! Names with their scopes, ABI section 5.1.2.
 
-ghost use Rattle.std.specs.Prelude.{◌≡◌, ◌≤◌, [], ◌∷◌};
+ghost use Rattle.std.specs.Prelude.{◌≡◌, ◌≤◌, ◌<◌, [], ◌∷◌};
+ghost use Rattle.demangle_text.specs.Spot.{spot};
 ghost use Rattle.demangle_table.specs.TableOf.{table_of};
 ghost use Rattle.demangle_leaf_nodes.specs.TreeLeaves.{tree_of_unscoped_name, tree_of_unscoped_template_name_handle};
 ghost use Rattle.demangle_nodes.specs.TreeNodes.{tree_of_name};
 ghost use Rattle.demangle_grammar.specs.Rule.{Row};
-ghost use Rattle.demangle_answers.specs.Reads.{ReadsRow};
+ghost use Rattle.demangle_grammar.specs.Code.{cread, here};
+ghost use Rattle.demangle_forms.specs.Starts.{local_names_at, names_at, template_handles_at, template_names_at};
+ghost use Rattle.demangle_forms.specs.Starts.{template_references_at};
+ghost use Rattle.demangle_answers.specs.Reads.{Reads, ReadsRow};
 
+use crate::first_bytes::{NameStart, is_reference, name_start};
 use crate::local_names::local_name;
 use crate::nested_names::nested_name;
-use crate::unqualified_names::unqualified_name;
 use demangle_answers::{add_template_name, next_is, passed, restored};
 use demangle_below::Below;
 use demangle_entries::{Name, UnscopedName, UnscopedTemplateNameHandle};
 use demangle_leaf_rows::{Depth, substitution};
 use demangle_parse_types::template_args;
+use demangle_parse_unqualified::unqualified_name;
 use demangle_row_parts::template_name_of;
 use demangle_table::SubstitutionTable;
 use demangle_text::{IndexStr, Result, consume};
@@ -26,7 +31,7 @@ use std::alloc::Global;
 /// ```text
 /// <name> ::= <nested-name> | <unscoped-name> | <unscoped-template-name> <template-args> | <local-name>
 /// ```
-#[tactic(auto, using(demangle_nodes::proofs::Parts::parts_name, demangle_forms::proofs::Lasting::lasting), unfolding(demangle_grammar::specs::Code::cread, demangle_grammar::specs::Rows::rule))]
+#[tactic(auto, using(demangle_forms::proofs::NameStarts::name_row_is), unfolding(demangle_forms::specs::Starts::name_row))]
 pub fn name_by<'b, B: Below>(
     below: B,
     alloc: Global,
@@ -40,6 +45,45 @@ pub fn name_by<'b, B: Below>(
         (table_of subs.old) (table_of subs.new) }
 {
     let depth = depth.enter()?;
+    let (name, rest) = name_alternatives(below, alloc, depth, subs, input)?;
+    Ok((name, rest))
+}
+
+/// The alternatives of a name, behind its level, from the first one on that the next bytes leave.
+#[tactic(auto)]
+fn name_alternatives<'b, B: Below>(
+    below: B,
+    alloc: Global,
+    depth: Depth,
+    subs: &mut SubstitutionTable,
+    input: IndexStr<'b>,
+) -> Result<(Name, IndexStr<'b>)>
+    requires can { B.can below }
+    requires room { depth.levels < B.most below }
+    ensures { Reads tree_of_name result (table_of subs.old) (table_of subs.new)
+        (names_at (cread depth.levels) depth.conversion (here (spot input.entry) (table_of subs.old))) }
+{
+    match name_start(depth, input) {
+        NameStart::All => any_name(below, alloc, depth, subs, input),
+        NameStart::Templates => template_or_local(below, alloc, depth, subs, input),
+        NameStart::Locals => local_alone(below, alloc, depth, subs, input),
+    }
+}
+
+/// All alternatives: nested names, unscoped names, and what comes after these.
+#[tactic(auto, using(demangle_nodes::proofs::Parts::parts_name, demangle_forms::proofs::Lasting::lasting), unfolding(demangle_forms::specs::Starts::names_at))]
+fn any_name<'b, B: Below>(
+    below: B,
+    alloc: Global,
+    depth: Depth,
+    subs: &mut SubstitutionTable,
+    input: IndexStr<'b>,
+) -> Result<(Name, IndexStr<'b>)>
+    requires can { B.can below }
+    requires room { depth.levels < B.most below }
+    ensures { Reads tree_of_name result (table_of subs.old) (table_of subs.new)
+        (names_at (cread depth.levels) depth.conversion (here (spot input.entry) (table_of subs.old))) }
+{
     let mark = subs.lengths();
     if let Ok((nested, rest)) = passed(nested_name(below, alloc, depth, subs, input))? {
         return Ok((Name::Nested(nested), rest));
@@ -53,12 +97,49 @@ pub fn name_by<'b, B: Below>(
         }
         return Ok((Name::Unscoped(name), rest));
     }
+    let (name, rest) = template_or_local(below, alloc, depth, subs, input)?;
+    Ok((name, rest))
+}
+
+/// Names of templates with their arguments, and local names.
+#[tactic(auto, using(demangle_nodes::proofs::Parts::parts_name, demangle_forms::proofs::Lasting::lasting), unfolding(demangle_forms::specs::Starts::template_names_at))]
+fn template_or_local<'b, B: Below>(
+    below: B,
+    alloc: Global,
+    depth: Depth,
+    subs: &mut SubstitutionTable,
+    input: IndexStr<'b>,
+) -> Result<(Name, IndexStr<'b>)>
+    requires can { B.can below }
+    requires room { depth.levels < B.most below }
+    ensures { Reads tree_of_name result (table_of subs.old) (table_of subs.new)
+        (template_names_at (cread depth.levels) depth.conversion (here (spot input.entry) (table_of subs.old))) }
+{
+    let mark = subs.lengths();
     let answer = unscoped_template_name_handle(below, alloc, depth, subs, input);
     if let Ok((handle, rest)) = passed(answer)? {
         let answer = template_args(below, alloc, depth, subs, rest);
         let (args, rest) = restored(subs, mark, answer)?;
         return Ok((Name::UnscopedTemplate(handle, args), rest));
     }
+    let (name, rest) = local_alone(below, alloc, depth, subs, input)?;
+    Ok((name, rest))
+}
+
+/// A local name, the last alternative.
+#[tactic(auto, using(demangle_nodes::proofs::Parts::parts_name, demangle_forms::proofs::Lasting::lasting), unfolding(demangle_forms::specs::Starts::local_names_at))]
+fn local_alone<'b, B: Below>(
+    below: B,
+    alloc: Global,
+    depth: Depth,
+    subs: &mut SubstitutionTable,
+    input: IndexStr<'b>,
+) -> Result<(Name, IndexStr<'b>)>
+    requires can { B.can below }
+    requires room { depth.levels < B.most below }
+    ensures { Reads tree_of_name result (table_of subs.old) (table_of subs.new)
+        (local_names_at (cread depth.levels) depth.conversion (here (spot input.entry) (table_of subs.old))) }
+{
     let (local, rest) = local_name(below, alloc, depth, subs, input)?;
     Ok((Name::Local(local), rest))
 }
@@ -95,7 +176,7 @@ pub fn unscoped_name<'b, B: Below>(
 /// ```text
 /// <unscoped-template-name> ::= <unscoped-name> | <substitution>
 /// ```
-#[tactic(auto, using(demangle_forms::proofs::Lasting::lasting), unfolding(demangle_grammar::specs::Code::cread, demangle_grammar::specs::Rows::rule))]
+#[tactic(auto, using(demangle_forms::proofs::NameStarts::template_handle_row_is), unfolding(demangle_forms::specs::Starts::template_handle_row))]
 pub fn unscoped_template_name_handle<'b, B: Below>(
     below: B,
     alloc: Global,
@@ -109,11 +190,47 @@ pub fn unscoped_template_name_handle<'b, B: Below>(
         depth.levels depth.conversion input.entry result (table_of subs.old) (table_of subs.new) }
 {
     let depth = depth.enter()?;
+    if is_reference(depth, input) {
+        let (handle, rest) = template_reference(depth, subs, input)?;
+        return Ok((handle, rest));
+    }
+    let (handle, rest) = any_template_handle(below, alloc, depth, subs, input)?;
+    Ok((handle, rest))
+}
+
+/// An unscoped name, which becomes a component, or a reference.
+#[tactic(auto, using(demangle_forms::proofs::Lasting::lasting), unfolding(demangle_forms::specs::Starts::template_handles_at))]
+fn any_template_handle<'b, B: Below>(
+    below: B,
+    alloc: Global,
+    depth: Depth,
+    subs: &mut SubstitutionTable,
+    input: IndexStr<'b>,
+) -> Result<(UnscopedTemplateNameHandle, IndexStr<'b>)>
+    requires can { B.can below }
+    requires room { depth.levels < B.most below }
+    ensures { Reads tree_of_unscoped_template_name_handle result (table_of subs.old) (table_of subs.new)
+        (template_handles_at (cread depth.levels) depth.conversion (here (spot input.entry) (table_of subs.old))) }
+{
     let mark = subs.lengths();
     if let Ok((name, rest)) = passed(unscoped_name(below, alloc, depth, subs, input))? {
         let handle = add_template_name(subs, mark, name)?;
         return Ok((handle, rest));
     }
+    let (handle, rest) = template_reference(depth, subs, input)?;
+    Ok((handle, rest))
+}
+
+/// A reference to the name of a template.
+#[tactic(auto, unfolding(demangle_forms::specs::Starts::template_references_at))]
+fn template_reference<'b>(
+    depth: Depth,
+    subs: &SubstitutionTable,
+    input: IndexStr<'b>,
+) -> Result<(UnscopedTemplateNameHandle, IndexStr<'b>)>
+    ensures { Reads tree_of_unscoped_template_name_handle result (table_of subs.now) (table_of subs.now)
+        (template_references_at (cread depth.levels) depth.conversion (here (spot input.entry) (table_of subs.now))) }
+{
     let (found, rest) = substitution(depth, subs.len(), input)?;
     Ok((template_name_of(found), rest))
 }

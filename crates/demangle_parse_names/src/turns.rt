@@ -9,13 +9,13 @@ ghost use Rattle.demangle_grammar.specs.Code.{close, cread, here};
 ghost use Rattle.demangle_forms.specs.NameForms.{first_decltype_at, first_name_at, turn_decltype_at, turn_name_at};
 ghost use Rattle.demangle_answers.specs.Reads.{Reads, ReadsRow};
 
-use crate::unqualified_names::unqualified_name;
 use demangle_answers::{add_prefix, next_is, passed, restored};
 use demangle_below::Below;
 use demangle_entries::{Prefix, PrefixHandle};
 use demangle_leaf_nodes::TemplateParam;
 use demangle_leaf_rows::{Depth, ReadLeaf, optional_word, substitution};
 use demangle_parse_types::{decltype, template_args};
+use demangle_parse_unqualified::unqualified_name;
 use demangle_row_parts::{Turn, first_turn, member_prefix, next_turn, no_prefix, prefix_of};
 use demangle_table::SubstitutionTable;
 use demangle_text::{IndexStr, Result, consume};

@@ -1,2 +1,3 @@
 pub mod RowsRead
 pub mod Signs
+pub mod TypeStarts

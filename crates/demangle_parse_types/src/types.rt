@@ -9,12 +9,14 @@ ghost use Rattle.demangle_grammar.specs.Code.{cread, here, trial_part};
 ghost use Rattle.demangle_forms.specs.TypeForms.{type_extension_at, type_handle_at, type_marks_at, type_names_at};
 ghost use Rattle.demangle_forms.specs.TypeForms.{type_param_at, type_qualified_at, type_shapes_at};
 ghost use Rattle.demangle_forms.specs.TypeForms.{type_substitution_at, type_template_at, type_templates_at};
+ghost use Rattle.demangle_forms.specs.Starts.{function_types_at, qualified_types_at, referred_types_at};
 ghost use Rattle.demangle_answers.specs.Reads.{Reads, ReadsRow, TestsAhead, Tries};
 
 use crate::arguments::{optional_template_args, template_args};
 use crate::array_types::{array_type, pointer_to_member_type, vector_type};
 use crate::builtin::builtin_type;
 use crate::class_types::{class_enum_type, decltype};
+use crate::first_bytes::{TypeStart, type_start};
 use crate::function_types::function_type;
 use crate::template_params::template_template_param_handle;
 use demangle_answers::{add_type, begins_function, kept, looked_behind, next_is, passed, restored};
@@ -52,10 +54,35 @@ pub fn type_handle_by<'b, B: Below>(
     Ok((handle, rest))
 }
 
-/// The alternatives of a type, behind its level: builtin types, those of compilers' own qualifiers, qualified types,
-/// and what comes after these.
-#[tactic(auto, using(demangle_forms::proofs::Lasting::lasting), unfolding(demangle_forms::specs::TypeForms::type_handle_at))]
+/// The alternatives of a type, behind its level, from the first one on that the next bytes leave.
+#[tactic(auto)]
 fn type_alternatives<'b, B: Below>(
+    below: B,
+    alloc: Global,
+    depth: Depth,
+    subs: &mut SubstitutionTable,
+    input: IndexStr<'b>,
+) -> Result<(TypeHandle, IndexStr<'b>)>
+    requires can { B.can below }
+    requires room { depth.levels < B.most below }
+    ensures { Reads tree_of_type_handle result (table_of subs.old) (table_of subs.new)
+        (type_handle_at (cread depth.levels) depth.conversion (here (spot input.entry) (table_of subs.old))) }
+{
+    match type_start(depth, input) {
+        TypeStart::All => any_type(below, alloc, depth, subs, input),
+        TypeStart::Qualified => qualified_or_named(below, alloc, depth, subs, input),
+        TypeStart::Names => type_names(below, alloc, depth, subs, input),
+        TypeStart::References => reference_or_named(below, alloc, depth, subs, input),
+        TypeStart::Functions => function_or_shape(below, alloc, depth, subs, input),
+        TypeStart::Shapes => type_shapes(below, alloc, depth, subs, input),
+        TypeStart::Templates => type_templates(below, alloc, depth, subs, input),
+        TypeStart::Marks => type_marks(below, alloc, depth, subs, input),
+    }
+}
+
+/// All alternatives: builtin types, those of compilers' own qualifiers, and what comes after these.
+#[tactic(auto, using(demangle_forms::proofs::Lasting::lasting), unfolding(demangle_forms::specs::TypeForms::type_handle_at, demangle_forms::specs::Starts::qualified_types_at))]
+fn any_type<'b, B: Below>(
     below: B,
     alloc: Global,
     depth: Depth,
@@ -73,10 +100,7 @@ fn type_alternatives<'b, B: Below>(
     if let Ok(found) = type_extension(below, alloc, depth, subs, input)? {
         return Ok(found);
     }
-    if let Ok(found) = type_qualified(below, alloc, depth, subs, input)? {
-        return Ok(found);
-    }
-    let (handle, rest) = type_names(below, alloc, depth, subs, input)?;
+    let (handle, rest) = qualified_or_named(below, alloc, depth, subs, input)?;
     Ok((handle, rest))
 }
 
@@ -134,8 +158,52 @@ fn type_qualified<'b, B: Below>(
     Ok(Ok((handle, rest)))
 }
 
-/// Classes and enumerations, references, functions, and what comes after these.
-#[tactic(auto, using(demangle_forms::proofs::Lasting::lasting), unfolding(demangle_forms::specs::TypeForms::type_names_at))]
+/// Types with qualifiers, and what comes after these.
+#[tactic(auto, using(demangle_forms::proofs::Lasting::lasting), unfolding(demangle_forms::specs::Starts::qualified_types_at))]
+fn qualified_or_named<'b, B: Below>(
+    below: B,
+    alloc: Global,
+    depth: Depth,
+    subs: &mut SubstitutionTable,
+    input: IndexStr<'b>,
+) -> Result<(TypeHandle, IndexStr<'b>)>
+    requires can { B.can below }
+    requires room { depth.levels < B.most below }
+    ensures { Reads tree_of_type_handle result (table_of subs.old) (table_of subs.new)
+        (qualified_types_at (cread depth.levels) depth.conversion (here (spot input.entry) (table_of subs.old))) }
+{
+    if let Ok(found) = type_qualified(below, alloc, depth, subs, input)? {
+        return Ok(found);
+    }
+    let (handle, rest) = type_names(below, alloc, depth, subs, input)?;
+    Ok((handle, rest))
+}
+
+/// A reference where no arguments follow, and else the alternatives from classes on: such a reference is no class.
+#[tactic(auto, using(demangle_forms::proofs::Lasting::lasting), unfolding(demangle_forms::specs::Starts::referred_types_at, demangle_forms::specs::TypeForms::type_substitution_at))]
+fn reference_or_named<'b, B: Below>(
+    below: B,
+    alloc: Global,
+    depth: Depth,
+    subs: &mut SubstitutionTable,
+    input: IndexStr<'b>,
+) -> Result<(TypeHandle, IndexStr<'b>)>
+    requires can { B.can below }
+    requires room { depth.levels < B.most below }
+    ensures { Reads tree_of_type_handle result (table_of subs.old) (table_of subs.new)
+        (referred_types_at (cread depth.levels) depth.conversion (here (spot input.entry) (table_of subs.old))) }
+{
+    if let Ok((found, rest)) = substitution(depth, subs.len(), input) {
+        if !next_is(b'I', rest) {
+            return Ok((type_of(found), rest));
+        }
+    }
+    let (handle, rest) = type_names(below, alloc, depth, subs, input)?;
+    Ok((handle, rest))
+}
+
+/// Classes and enumerations, references, and what comes after these.
+#[tactic(auto, using(demangle_forms::proofs::Lasting::lasting), unfolding(demangle_forms::specs::TypeForms::type_names_at, demangle_forms::specs::Starts::function_types_at))]
 fn type_names<'b, B: Below>(
     below: B,
     alloc: Global,
@@ -159,6 +227,25 @@ fn type_names<'b, B: Below>(
     if let Ok(found) = type_substitution(depth, subs, input)? {
         return Ok(found);
     }
+    let (handle, rest) = function_or_shape(below, alloc, depth, subs, input)?;
+    Ok((handle, rest))
+}
+
+/// Functions, and what comes after these.
+#[tactic(auto, using(demangle_forms::proofs::Lasting::lasting), unfolding(demangle_forms::specs::Starts::function_types_at))]
+fn function_or_shape<'b, B: Below>(
+    below: B,
+    alloc: Global,
+    depth: Depth,
+    subs: &mut SubstitutionTable,
+    input: IndexStr<'b>,
+) -> Result<(TypeHandle, IndexStr<'b>)>
+    requires can { B.can below }
+    requires room { depth.levels < B.most below }
+    ensures { Reads tree_of_type_handle result (table_of subs.old) (table_of subs.new)
+        (function_types_at (cread depth.levels) depth.conversion (here (spot input.entry) (table_of subs.old))) }
+{
+    let mark = subs.lengths();
     match passed(function_type(below, alloc, depth, subs, input))? {
         Ok((function, rest)) => {
             let handle = add_type(subs, mark, TypeNode::Function(function))?;

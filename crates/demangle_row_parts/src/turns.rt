@@ -3,7 +3,7 @@
 ghost use Rattle.std.specs.Prelude.{◌≡◌};
 ghost use Rattle.demangle_text.specs.Kind.{kind};
 ghost use Rattle.demangle_text.specs.Spot.{spot};
-ghost use Rattle.demangle_grammar.specs.Reading.{is_numbered, is_one_of};
+ghost use Rattle.demangle_grammar.specs.Reading.{is_numbered};
 ghost use Rattle.demangle_leaf_nodes.specs.TreeLeaves.{tree_of_prefix_handle};
 ghost use Rattle.demangle_forms.specs.NameForms.{first_turn_at, is_name_first, names_next, no_prefix_kind, turn_at};
 ghost use Rattle.demangle_row_parts.specs.Words.{form_of_turn};
@@ -29,24 +29,17 @@ pub enum Turn {
     None,
 }
 
-/// Whether the byte is one of these.
-fn is_one_of(bytes: &[u8], byte: u8) -> bool
-    ensures { result ≡ is_one_of bytes.now byte }
-{
-    for other in bytes {
-        if *other == byte {
-            return true;
-        }
-    }
-    false
-}
-
 /// Whether a name in a prefix begins with the byte.
+#[tactic(auto, unfolding(demangle_forms::specs::NameForms::is_name_first))]
 fn is_name_first(byte: u8) -> bool
     ensures { result ≡ is_name_first byte }
 {
-    let found = is_one_of(b"LCU0123456789nadpcomrelsgiqv", byte);
-    found
+    match byte {
+        b'0'..=b'9' | b'L' | b'C' | b'U' => true,
+        b'n' | b'a' | b'd' | b'p' | b'c' | b'o' | b'm' | b'r' | b'e' => true,
+        b'l' | b's' | b'g' | b'i' | b'q' | b'v' => true,
+        _ => false,
+    }
 }
 
 /// Whether a name in a prefix begins here.

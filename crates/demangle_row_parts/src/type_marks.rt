@@ -48,25 +48,19 @@ impl TypeMark {
 }
 
 /// The word at the front, and the rest. Where none is there, the refusal is that of the last, `Dp`.
-#[tactic(auto, unfolding(demangle_forms::specs::TypeForms::type_mark_at))]
+#[tactic(auto, unfolding(demangle_forms::specs::TypeForms::type_mark_at, demangle_text::specs::Word::word_at))]
 pub fn type_mark<'b>(input: IndexStr<'b>) -> Result<(TypeMark, IndexStr<'b>)>
     ensures { Gives (λ x. (tag_of_type_mark x.0, spot x.1)) result (type_mark_at (spot input.entry)) }
 {
-    if let Ok(rest) = consume(b"P", input) {
-        return Ok((TypeMark::PointerTo, rest));
+    match input.as_slice() {
+        [b'P', ..] => Ok((TypeMark::PointerTo, input.range_from(1..))),
+        [b'R', ..] => Ok((TypeMark::LvalueRef, input.range_from(1..))),
+        [b'O', ..] => Ok((TypeMark::RvalueRef, input.range_from(1..))),
+        [b'C', ..] => Ok((TypeMark::Complex, input.range_from(1..))),
+        [b'G', ..] => Ok((TypeMark::Imaginary, input.range_from(1..))),
+        _ => {
+            let rest = consume(b"Dp", input)?;
+            Ok((TypeMark::PackExpansion, rest))
+        }
     }
-    if let Ok(rest) = consume(b"R", input) {
-        return Ok((TypeMark::LvalueRef, rest));
-    }
-    if let Ok(rest) = consume(b"O", input) {
-        return Ok((TypeMark::RvalueRef, rest));
-    }
-    if let Ok(rest) = consume(b"C", input) {
-        return Ok((TypeMark::Complex, rest));
-    }
-    if let Ok(rest) = consume(b"G", input) {
-        return Ok((TypeMark::Imaginary, rest));
-    }
-    let rest = consume(b"Dp", input)?;
-    Ok((TypeMark::PackExpansion, rest))
 }

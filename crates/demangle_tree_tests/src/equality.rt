@@ -1,13 +1,13 @@
 //! Equality of nodes that were built apart.
 
+use crate::nodes::{
+    are_equal, arguments, boxed, differ, function, handle, mangled, simple_id, sum, unqualified,
+};
 use demangle_text::Result;
 use demangle_tree::{
     ArrayType, BaseUnresolvedName, Decltype, Discriminator, Expression, LocalName, MangledName,
     Prefix, PrefixHandle, SpecialName, Substitutable, SubstitutionTable, TemplateArgs, TypeNode,
     UnresolvedName,
-};
-use demangle_tree_samples::{
-    are_equal, arguments, boxed, differ, function, handle, mangled, simple_id, sum, unqualified,
 };
 use std::alloc::Global;
 

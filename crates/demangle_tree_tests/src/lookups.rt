@@ -1,15 +1,16 @@
 //! The look-ups through the table.
 
+use crate::nodes::{both, boxed, function};
+use crate::worked::{
+    class_name, constructor, conversion_to_int, destructor, int, is_class, operator_new, place,
+    position, table_of_class, template_of_class,
+};
 use demangle_text::Result;
 use demangle_tree::{
     CvQualifiers, GetLeafName, GetTemplateArgs, Identifier, IsCtorDtorConversion, LeafName,
     LocalName, Name, NestedName, NonSubstitution, Prefix, PrefixHandle, SourceName, Substitutable,
     SubstitutionTable, TemplateArgs, TemplateTemplateParamHandle, TypeHandle, TypeNode,
     UnqualifiedName, UnresolvedTypeHandle, UnscopedName, UnscopedTemplateNameHandle,
-};
-use demangle_tree_samples::{
-    both, boxed, class_name, constructor, conversion_to_int, destructor, function, int, is_class,
-    operator_new, place, position, table_of_class, template_of_class,
 };
 use demangle_vocab::{RefQualifier, WellKnownComponent};
 use std::alloc::Global;

@@ -1,9 +1,10 @@
 //! The table's calls.
 
-use demangle_tree::{Substitutable, SubstitutionTable, TypeHandle};
-use demangle_tree_samples::{
-    class, int, is_pointer_to_int, is_type_pointer_to_int, listed, pointer_to_int, position,
+use crate::nodes::listed;
+use crate::worked::{
+    class, int, is_pointer_to_int, is_type_pointer_to_int, pointer_to_int, position,
 };
+use demangle_tree::{Substitutable, SubstitutionTable, TypeHandle};
 use std::alloc::Global;
 
 fn count_pointers(subs: &SubstitutionTable) -> usize {

@@ -1,11 +1,12 @@
 //! The text of `{:?}`, which no clause states: that of Rust's derive, with boxes left out.
 
+use crate::nodes::{both, boxed, listed};
+use crate::worked::int;
 use demangle_text::Result;
 use demangle_tree::{
     BareFunctionType, CvQualifiers, ExceptionSpec, ExprPrimary, Expression, FunctionType, LeafName,
     SubobjectExpr, SubstitutionTable, TypeHandle, UnnamedTypeName,
 };
-use demangle_tree_samples::{both, boxed, int, listed};
 use std::alloc::Global;
 use std::fmt::Debug;
 

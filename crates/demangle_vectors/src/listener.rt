@@ -32,11 +32,6 @@ impl Noted {
     pub(crate) fn text(&self) -> &str {
         self.text.as_str()
     }
-
-    /// Keeps a piece, or answers that there was no memory.
-    fn keep(&mut self, piece: &str) -> bool {
-        self.text.push_str(piece).is_ok()
-    }
 }
 
 /// A letter for each kind of node.
@@ -58,7 +53,7 @@ impl DemangleWrite for Noted {
     ghost seen = { λ s. record { text = None; calls = None; faults = s.faults; refusals = s.refusals } };
 
     fn push_demangle_node(&mut self, kind: DemangleNodeType) {
-        let _kept = self.keep(letter(kind));
+        let _kept = self.text.push_str(letter(kind)).is_ok();
     }
 
     fn write_string(&mut self, s: &str) -> Result<(), SinkFault> {
@@ -67,14 +62,16 @@ impl DemangleWrite for Noted {
             return Err(SinkFault::Failed);
         }
         self.pieces = self.pieces.saturating_add(1);
-        if !self.keep(s) {
-            self.refusals = self.refusals.saturating_add(1);
-            return Err(SinkFault::OutOfMemory);
+        match self.text.push_str(s) {
+            Ok(()) => Ok(()),
+            Err(_) => {
+                self.refusals = self.refusals.saturating_add(1);
+                Err(SinkFault::OutOfMemory)
+            }
         }
-        Ok(())
     }
 
     fn pop_demangle_node(&mut self) {
-        let _kept = self.keep(">");
+        let _kept = self.text.push_str(">").is_ok();
     }
 }

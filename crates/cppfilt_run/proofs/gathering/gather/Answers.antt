@@ -1,4 +1,4 @@
-use Rattle.std.proofs.Common.{◌≡◌, ap, ◌∙◌, length, rules, take}
+use Rattle.std.proofs.Common.{ap, ◌∙◌, take}
 use Rattle.demangle_printing.specs.Outcome.{outcome}
 use Rattle.cpp_demangle.specs.Answer.{answer_of}
 use Rattle.cppfilt_run.proofs.GatheredLaws.{gathered-text, gathered-nothing}
@@ -20,8 +20,8 @@ returns-in-Err c =
     let answer = answer_of (outcome c.args.options.now.parse c.args.options.now.print c.args.name.now) in
     let begun = c.behind-listener.result in
     let told = c.structured_demangle_symbol-answer.new.out in
-    let before : c.len-before.result ≡ length c.args.gathered.now.items = search rules in
     gathered-nothing answer c.args.gathered.now.items begun.gathered.items told.gathered.items _ _ begun.refusals
     told.refusals c.in-Err.fault (c.behind-listener.ensures ∙ ap (λ v. v.items) c.replace.ensures.value)
     c.into_gathered.ensures c.structured_demangle_symbol-answer.ensures.lengthens c.in-Err.ensures.outcome
-    (c.truncate.ensures.items ∙ ap (λ n. take n c.into_gathered.result.items) before)
+    (c.truncate.ensures.items
+    ∙ ap (λ n. take n c.into_gathered.result.items) (c.len-before.ensures ∙ c.args.gathered.now.ok.0))

@@ -1,0 +1,47 @@
+//! From a name's bytes to a listener.
+
+ghost use Rattle.std.specs.Prelude.{◌≡◌, true, IfErr};
+ghost use Rattle.demangle_printing.specs.Outcome.{outcome};
+ghost use Rattle.cpp_demangle.specs.Answer.{answer_of};
+ghost use Rattle.cpp_demangle.specs.NameTold.{IsToldAnswer, KeepsFaults, Lengthens, NameTold, may_be_told};
+
+use crate::demangle::{SymbolFault, print_fault, read_fault};
+use crate::reading::read_whole;
+use crate::telling::tell;
+use demangle_release::release;
+use demangle_scope::{DemangleOptions, DemangleWrite};
+use demangle_text::ParseOptions;
+use std::alloc::Global;
+
+/// Tells a listener the text of a linker name, whole, as it is printed, and the nodes in it: `demangle_symbol` without
+/// holding the text.
+///
+/// Errors as those of `demangle_symbol`, and `Print` of `Sink`, which comes only where the listener's count of faults
+/// rose; where it rose, no other answer comes. Where the name isn't read the listener was told nothing. After another
+/// error it was told the events before it, or a front of them, and then that nodes end, no more than stood open.
+pub fn structured_demangle_symbol<W: DemangleWrite>(
+    alloc: Global,
+    bytes: &[u8],
+    out: &mut W,
+    parse: &ParseOptions,
+    print: &DemangleOptions,
+) -> Result<(), SymbolFault>
+    ensures outcome { IsToldAnswer (answer_of (outcome parse.now print.now bytes.now))
+        (W.seen out.old) (W.seen out.new) result }
+    ensures told { NameTold (W.seen out.old) (W.seen out.new) parse.now print.now bytes.now result }
+    ensures faults { KeepsFaults (W.seen out.old) (W.seen out.new) result }
+    ensures lengthens { Lengthens (W.seen out.old).text (W.seen out.new).text }
+    ensures causes { IfErr result (λ e. may_be_told e ≡ true) }
+{
+    match read_whole(alloc, bytes, parse) {
+        Ok((name, subs)) => {
+            let told = tell(alloc, &name, &subs, bytes, print, out);
+            release(name, subs);
+            match told {
+                Ok(()) => Ok(()),
+                Err(error) => Err(print_fault(error)),
+            }
+        }
+        Err(error) => Err(read_fault(error)),
+    }
+}

@@ -1,0 +1,110 @@
+//! With which alternatives the next bytes leave a type: those before can't begin with them, and needn't be tried.
+
+ghost use Rattle.std.specs.Prelude.{◌≡◌, ◌||◌, true, ◌∷◌};
+ghost use Rattle.demangle_text.specs.Spot.{spot};
+ghost use Rattle.demangle_core.specs.Table.{Table};
+ghost use Rattle.demangle_grammar.specs.Rule.{Class};
+ghost use Rattle.demangle_grammar.specs.Items.{these};
+ghost use Rattle.demangle_grammar.specs.Reading.{next_is};
+ghost use Rattle.demangle_grammar.specs.Code.{cread, here};
+ghost use Rattle.demangle_forms.specs.TypeForms.{type_handle_at};
+ghost use Rattle.demangle_forms.specs.Starts.{leaves_type, type_from};
+ghost use Rattle.demangle_parse_types.specs.TypeStarts.{form_of_start};
+
+use demangle_leaf_rows::Depth;
+use demangle_text::IndexStr;
+
+/// How many levels an alternative goes deep, at the most, that can't begin with the next byte.
+const SHALLOW: u32 = 8;
+
+/// With which alternative a type is begun.
+#[derive(Clone, Copy)]
+pub enum TypeStart {
+    /// The first one, a builtin type.
+    All,
+    /// Qualifiers: `r`, `V` or `K`.
+    Qualified,
+    /// Classes and enumerations: a digit, `N`, `Z`, `L`, `C` or `St`.
+    Names,
+    /// References, and what comes with classes behind them: `S` and no `t`.
+    References,
+    /// Functions: `F`.
+    Functions,
+    /// Arrays and pointers to members: `A` or `M`.
+    Shapes,
+    /// Template parameters: `T` and a number or `_`.
+    Templates,
+    /// The words before types, the last alternatives; a byte with which no type begins is refused there.
+    Marks,
+}
+
+/// Where the type begins. Close to the limit of levels that is always the first alternative, since one that is only
+/// tried may reach the limit.
+#[tactic(auto, using(demangle_forms::proofs::TypeStarts::type_starts))]
+pub fn type_start<'b>(depth: Depth, input: IndexStr<'b>) -> TypeStart
+    ensures { (table : Table) → type_handle_at (cread depth.levels) depth.conversion (here (spot input.entry) table)
+        ≡ type_from (form_of_start result) (cread depth.levels) depth.conversion (here (spot input.entry) table) }
+{
+    if depth.levels < SHALLOW {
+        return TypeStart::All;
+    }
+    start_of(input)
+}
+
+/// Where the next bytes leave a type.
+fn start_of<'b>(input: IndexStr<'b>) -> TypeStart
+    ensures { leaves_type (form_of_start result) (spot input.entry).left ≡ true }
+{
+    match input.as_slice() {
+        [] => TypeStart::Marks,
+        [first, rest @ ..] => start_by(*first, rest),
+    }
+}
+
+/// The same by the first byte, and the bytes behind it.
+fn start_by(first: u8, rest: &[u8]) -> TypeStart
+    ensures { leaves_type (form_of_start result) (first ∷ rest.now) ≡ true }
+{
+    match first {
+        b'0'..=b'9' | b'N' | b'Z' | b'L' | b'C' => TypeStart::Names,
+        b'S' => {
+            if begins_std(rest) {
+                TypeStart::Names
+            } else {
+                TypeStart::References
+            }
+        }
+        b'T' => {
+            if begins_number(rest) {
+                TypeStart::Templates
+            } else {
+                TypeStart::All
+            }
+        }
+        b'r' | b'V' | b'K' => TypeStart::Qualified,
+        b'F' => TypeStart::Functions,
+        b'A' | b'M' => TypeStart::Shapes,
+        b'P' | b'R' | b'O' | b'G' | b'E' | b'J' | b'I' | b'X' | b'_' | b'.' => TypeStart::Marks,
+        _ => TypeStart::All,
+    }
+}
+
+/// Whether a name of `std` stands there, behind its `S`.
+pub fn begins_std(rest: &[u8]) -> bool
+    ensures { result ≡ next_is (these "t") rest.now }
+{
+    match rest {
+        [] => false,
+        [next, ..] => b't' == *next,
+    }
+}
+
+/// Whether the number of a template parameter stands there, or its end.
+fn begins_number(rest: &[u8]) -> bool
+    ensures { result ≡ (next_is Class.digits rest.now || next_is (these "_") rest.now) }
+{
+    match rest {
+        [] => false,
+        [next, ..] => (b'0' <= *next && *next <= b'9') || b'_' == *next,
+    }
+}
