@@ -38,20 +38,16 @@ pub fn calls<'b, B: Below>(
 {
     match word {
         CallWord::Call => {
-            let (expression, rest) = call(below, alloc, depth, subs, input)?;
-            Ok((expression, rest))
+            call(below, alloc, depth, subs, input)
         }
         CallWord::Conversion => {
-            let (expression, rest) = conversion(below, alloc, depth, subs, input)?;
-            Ok((expression, rest))
+            conversion(below, alloc, depth, subs, input)
         }
         CallWord::Braces => {
-            let (expression, rest) = braces(below, alloc, depth, subs, input)?;
-            Ok((expression, rest))
+            braces(below, alloc, depth, subs, input)
         }
         CallWord::List => {
-            let (expression, rest) = list(below, alloc, depth, subs, input)?;
-            Ok((expression, rest))
+            list(below, alloc, depth, subs, input)
         }
     }
 }

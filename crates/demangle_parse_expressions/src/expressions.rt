@@ -50,8 +50,7 @@ pub fn expression_by<'b, B: Below>(
         (table_of subs.old) (table_of subs.new) }
 {
     let depth = depth.enter()?;
-    let (expression, rest) = alternatives(below, alloc, depth, subs, input)?;
-    Ok((expression, rest))
+    alternatives(below, alloc, depth, subs, input)
 }
 
 /// The alternatives of an expression, behind its level, from the first one on that the next bytes leave.
@@ -92,15 +91,13 @@ fn any_expression<'b, B: Below>(
         (expression_at (cread depth.levels) depth.conversion (here (spot input.entry) (table_of subs.old))) }
 {
     if let Ok((word, rest)) = expression_word(input) {
-        let (expression, rest) = worded(below, alloc, depth, subs, word, rest)?;
-        return Ok((expression, rest));
+        return worded(below, alloc, depth, subs, word, rest);
     }
     if fold_begins(input) {
         let (fold, rest) = fold_expr(below, alloc, depth, subs, input)?;
         return Ok((Expression::Fold(fold), rest));
     }
-    let (expression, rest) = names(below, alloc, depth, subs, input)?;
-    Ok((expression, rest))
+    names(below, alloc, depth, subs, input)
 }
 
 /// What stands behind a word of its own.
@@ -120,24 +117,19 @@ fn worded<'b, B: Below>(
 {
     match word {
         ExpressionWord::OfExpression(word) => {
-            let (expression, rest) = of_expression(below, alloc, depth, subs, word, input)?;
-            Ok((expression, rest))
+            of_expression(below, alloc, depth, subs, word, input)
         }
         ExpressionWord::OfType(word) => {
-            let (expression, rest) = of_type(below, alloc, depth, subs, word, input)?;
-            Ok((expression, rest))
+            of_type(below, alloc, depth, subs, word, input)
         }
         ExpressionWord::Cast(word) => {
-            let (expression, rest) = cast(below, alloc, depth, subs, word, input)?;
-            Ok((expression, rest))
+            cast(below, alloc, depth, subs, word, input)
         }
         ExpressionWord::Call(word) => {
-            let (expression, rest) = calls(below, alloc, depth, subs, word, input)?;
-            Ok((expression, rest))
+            calls(below, alloc, depth, subs, word, input)
         }
         ExpressionWord::Member(word) => {
-            let (expression, rest) = members(below, alloc, depth, subs, word, input)?;
-            Ok((expression, rest))
+            members(below, alloc, depth, subs, word, input)
         }
     }
 }
@@ -165,8 +157,7 @@ fn names<'b, B: Below>(
         Ok(found) => return Ok(found),
         Err(_) => {}
     }
-    let (expression, rest) = parameters(below, alloc, depth, subs, input)?;
-    Ok((expression, rest))
+    parameters(below, alloc, depth, subs, input)
 }
 
 /// Parameters, and what comes after these.
@@ -189,8 +180,7 @@ fn parameters<'b, B: Below>(
     if let Ok((param, rest)) = passed(FunctionParam::read_leaf(depth, input))? {
         return Ok((Expression::FunctionParam(param), rest));
     }
-    let (expression, rest) = references(below, alloc, depth, subs, input)?;
-    Ok((expression, rest))
+    references(below, alloc, depth, subs, input)
 }
 
 /// Unresolved names, and what comes after these.
@@ -211,8 +201,7 @@ fn references<'b, B: Below>(
         Ok((name, rest)) => return Ok((Expression::UnresolvedName(name), rest)),
         Err(_) => {}
     }
-    let (expression, rest) = literals(below, alloc, depth, subs, input)?;
-    Ok((expression, rest))
+    literals(below, alloc, depth, subs, input)
 }
 
 /// Literals and entities, and operators with their operands.
@@ -233,6 +222,5 @@ fn literals<'b, B: Below>(
         Ok((primary, rest)) => return Ok((Expression::Primary(primary), rest)),
         Err(_) => {}
     }
-    let (expression, rest) = operators(below, alloc, depth, subs, input)?;
-    Ok((expression, rest))
+    operators(below, alloc, depth, subs, input)
 }

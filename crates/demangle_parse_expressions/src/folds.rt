@@ -45,8 +45,7 @@ pub fn fold_expr<'b, B: Below>(
     let rest = consume(b"f", input)?;
     let (word, rest) = fold_word(rest)?;
     let (operator, rest) = fold_operator(depth, rest)?;
-    let (fold, rest) = folded(below, alloc, depth, subs, word, operator, rest)?;
-    Ok((fold, rest))
+    folded(below, alloc, depth, subs, word, operator, rest)
 }
 
 /// What is folded, behind the operator.

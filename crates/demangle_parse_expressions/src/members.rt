@@ -46,24 +46,19 @@ pub fn members<'b, B: Below>(
 {
     match word {
         MemberWord::Subobject => {
-            let (expression, rest) = subobject(below, alloc, depth, subs, input)?;
-            Ok((expression, rest))
+            subobject(below, alloc, depth, subs, input)
         }
         MemberWord::Access(word) => {
-            let (expression, rest) = access(below, alloc, depth, subs, word, input)?;
-            Ok((expression, rest))
+            access(below, alloc, depth, subs, word, input)
         }
         MemberWord::PointerToMember => {
-            let (expression, rest) = pointer_to_member(below, alloc, depth, subs, input)?;
-            Ok((expression, rest))
+            pointer_to_member(below, alloc, depth, subs, input)
         }
         MemberWord::SizeofPack => {
-            let (expression, rest) = sizeof_pack(depth, input)?;
-            Ok((expression, rest))
+            sizeof_pack(depth, input)
         }
         MemberWord::SizeofCapturedPack => {
-            let (expression, rest) = sizeof_captured_pack(below, alloc, depth, subs, input)?;
-            Ok((expression, rest))
+            sizeof_captured_pack(below, alloc, depth, subs, input)
         }
         MemberWord::Rethrow => Ok((Expression::Rethrow, input)),
     }

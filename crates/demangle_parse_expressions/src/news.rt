@@ -38,8 +38,7 @@ pub fn global_allocation<'b, B: Below>(
 {
     let rest = consume(b"gs", input)?;
     let forms = AllocationForms::global();
-    let (expression, rest) = allocation(below, alloc, depth, subs, forms, rest)?;
-    Ok((expression, rest))
+    allocation(below, alloc, depth, subs, forms, rest)
 }
 
 /// New or delete, ABI section 5.1.6, in the forms of the place. What fails here may still be an operator of the same
@@ -79,8 +78,7 @@ pub fn allocation<'b, B: Below>(
         Err(_) => {}
     }
     let form = forms.delete_array;
-    let (expression, rest) = delete_of(below, alloc, depth, subs, b"da", form, input)?;
-    Ok((expression, rest))
+    delete_of(below, alloc, depth, subs, b"da", form, input)
 }
 
 /// New behind this word: its placement, its type, and its initializer or none.

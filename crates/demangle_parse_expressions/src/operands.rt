@@ -44,8 +44,7 @@ pub fn operators<'b, B: Below>(
     let mark = subs.lengths();
     let (operator, rest) = operator_name(below, alloc, depth, subs, input)?;
     let answer = operands(below, alloc, depth, subs, operator, rest);
-    let (expression, rest) = restored(subs, mark, answer)?;
-    Ok((expression, rest))
+    restored(subs, mark, answer)
 }
 
 /// As many operands as the operator takes. `UnexpectedText` where it takes none or more than three.
@@ -66,16 +65,13 @@ fn operands<'b, B: Below>(
 {
     match operand_count(operator) {
         1 => {
-            let (expression, rest) = unary(below, alloc, depth, subs, operator, input)?;
-            Ok((expression, rest))
+            unary(below, alloc, depth, subs, operator, input)
         }
         2 => {
-            let (expression, rest) = binary(below, alloc, depth, subs, operator, input)?;
-            Ok((expression, rest))
+            binary(below, alloc, depth, subs, operator, input)
         }
         3 => {
-            let (expression, rest) = ternary(below, alloc, depth, subs, operator, input)?;
-            Ok((expression, rest))
+            ternary(below, alloc, depth, subs, operator, input)
         }
         _ => Err(Error::UnexpectedText),
     }

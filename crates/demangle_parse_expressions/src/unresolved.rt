@@ -43,16 +43,14 @@ pub fn unresolved_name<'b, B: Below>(
 {
     let depth = depth.enter()?;
     if let Ok(rest) = consume(b"gs", input) {
-        let (name, rest) = global_name(below, alloc, depth, subs, rest)?;
-        return Ok((name, rest));
+        return global_name(below, alloc, depth, subs, rest);
     }
     match passed(base_unresolved_name(below, alloc, depth, subs, input))? {
         Ok((name, rest)) => return Ok((UnresolvedName::Name(name), rest)),
         Err(_) => {}
     }
     let rest = consume(b"sr", input)?;
-    let (name, rest) = scoped_name(below, alloc, depth, subs, rest)?;
-    Ok((name, rest))
+    scoped_name(below, alloc, depth, subs, rest)
 }
 
 /// A name of the global scope, behind `gs`.
@@ -101,15 +99,13 @@ fn scoped_name<'b, B: Below>(
         (scoped_name_at (cread depth.levels) depth.conversion (here (spot input.entry) (table_of subs.old))) }
 {
     if let Ok(rest) = consume(b"N", input) {
-        let (name, rest) = name_in_type_scopes(below, alloc, depth, subs, rest)?;
-        return Ok((name, rest));
+        return name_in_type_scopes(below, alloc, depth, subs, rest);
     }
     match name_in_type(below, alloc, depth, subs, input)? {
         Ok(found) => return Ok(found),
         Err(_) => {}
     }
-    let (name, rest) = name_in_scopes(below, alloc, depth, subs, input)?;
-    Ok((name, rest))
+    name_in_scopes(below, alloc, depth, subs, input)
 }
 
 /// A name in scopes of a type, behind `srN`.

@@ -69,6 +69,5 @@ fn boxed_special_name<'b, B: Below>(
 {
     let mark = subs.lengths();
     let answer = special_name(below, alloc, depth, subs, input);
-    let (boxed, rest) = in_box(alloc, subs, mark, answer)?;
-    Ok((boxed, rest))
+    in_box(alloc, subs, mark, answer)
 }

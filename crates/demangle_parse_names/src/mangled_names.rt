@@ -47,12 +47,10 @@ pub fn mangled_name_by<'b, B: Below>(
 {
     let depth = depth.enter()?;
     if let Ok(rest) = encoding_word(input) {
-        let (name, rest) = encoding_and_clones(below, alloc, depth, subs, rest)?;
-        return Ok((name, rest));
+        return encoding_and_clones(below, alloc, depth, subs, rest);
     }
     if let Ok(rest) = block_word(input) {
-        let (name, rest) = block_invoke(below, alloc, depth, subs, rest)?;
-        return Ok((name, rest));
+        return block_invoke(below, alloc, depth, subs, rest);
     }
     if let Ok(rest) = consume(b"_GLOBAL_", input) {
         let (global, rest) = global_ctor_dtor(below, alloc, depth, subs, rest)?;

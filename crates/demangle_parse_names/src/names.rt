@@ -45,8 +45,7 @@ pub fn name_by<'b, B: Below>(
         (table_of subs.old) (table_of subs.new) }
 {
     let depth = depth.enter()?;
-    let (name, rest) = name_alternatives(below, alloc, depth, subs, input)?;
-    Ok((name, rest))
+    name_alternatives(below, alloc, depth, subs, input)
 }
 
 /// The alternatives of a name, behind its level, from the first one on that the next bytes leave.
@@ -97,8 +96,7 @@ fn any_name<'b, B: Below>(
         }
         return Ok((Name::Unscoped(name), rest));
     }
-    let (name, rest) = template_or_local(below, alloc, depth, subs, input)?;
-    Ok((name, rest))
+    template_or_local(below, alloc, depth, subs, input)
 }
 
 /// Names of templates with their arguments, and local names.
@@ -122,8 +120,7 @@ fn template_or_local<'b, B: Below>(
         let (args, rest) = restored(subs, mark, answer)?;
         return Ok((Name::UnscopedTemplate(handle, args), rest));
     }
-    let (name, rest) = local_alone(below, alloc, depth, subs, input)?;
-    Ok((name, rest))
+    local_alone(below, alloc, depth, subs, input)
 }
 
 /// A local name, the last alternative.
@@ -191,11 +188,9 @@ pub fn unscoped_template_name_handle<'b, B: Below>(
 {
     let depth = depth.enter()?;
     if is_reference(depth, input) {
-        let (handle, rest) = template_reference(depth, subs, input)?;
-        return Ok((handle, rest));
+        return template_reference(depth, subs, input);
     }
-    let (handle, rest) = any_template_handle(below, alloc, depth, subs, input)?;
-    Ok((handle, rest))
+    any_template_handle(below, alloc, depth, subs, input)
 }
 
 /// An unscoped name, which becomes a component, or a reference.
@@ -217,8 +212,7 @@ fn any_template_handle<'b, B: Below>(
         let handle = add_template_name(subs, mark, name)?;
         return Ok((handle, rest));
     }
-    let (handle, rest) = template_reference(depth, subs, input)?;
-    Ok((handle, rest))
+    template_reference(depth, subs, input)
 }
 
 /// A reference to the name of a template.

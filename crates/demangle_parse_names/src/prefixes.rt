@@ -42,8 +42,7 @@ pub fn prefix_handle<'b, B: Below>(
     let mark = subs.lengths();
     let (first, rest) = first_prefix(below, alloc, depth, subs, input)?;
     let answer = prefix_turns(below, alloc, depth, subs, rest, first);
-    let (prefix, rest) = restored(subs, mark, answer)?;
-    Ok((prefix, rest))
+    restored(subs, mark, answer)
 }
 
 /// The turns behind the first.

@@ -58,8 +58,7 @@ pub fn special_name<'b, B: Below>(
         let (ty, rest) = below.type_handle(alloc, depth, subs, rest)?;
         return Ok((table.of(ty), rest));
     }
-    let (name, rest) = thunk_or_other(below, alloc, depth, subs, input)?;
-    Ok((name, rest))
+    thunk_or_other(below, alloc, depth, subs, input)
 }
 
 /// Thunks, construction tables, and the alternatives behind them.
@@ -77,19 +76,15 @@ fn thunk_or_other<'b, B: Below>(
         (thunks_at (cread depth.levels) depth.conversion (here (spot input.entry) (table_of subs.old))) }
 {
     if let Ok(rest) = consume(b"Tc", input) {
-        let (name, rest) = covariant_thunk(below, alloc, depth, subs, rest)?;
-        return Ok((name, rest));
+        return covariant_thunk(below, alloc, depth, subs, rest);
     }
     if begins_thunk(input) {
-        let (name, rest) = thunk(below, alloc, depth, subs, input)?;
-        return Ok((name, rest));
+        return thunk(below, alloc, depth, subs, input);
     }
     if let Ok(rest) = consume(b"TC", input) {
-        let (name, rest) = construction_vtable(below, alloc, depth, subs, rest)?;
-        return Ok((name, rest));
+        return construction_vtable(below, alloc, depth, subs, rest);
     }
-    let (name, rest) = of_name_or_other(below, alloc, depth, subs, input)?;
-    Ok((name, rest))
+    of_name_or_other(below, alloc, depth, subs, input)
 }
 
 /// What is made for a name, and the alternatives behind it.
@@ -110,8 +105,7 @@ fn of_name_or_other<'b, B: Below>(
         let (name, rest) = below.name(alloc, depth, subs, rest)?;
         return Ok((word.of(name), rest));
     }
-    let (name, rest) = compiler_addition(below, alloc, depth, subs, input)?;
-    Ok((name, rest))
+    compiler_addition(below, alloc, depth, subs, input)
 }
 
 /// Temporaries, resources and clones, the last alternatives.
@@ -129,16 +123,13 @@ fn compiler_addition<'b, B: Below>(
         (compiler_additions_at (cread depth.levels) depth.conversion (here (spot input.entry) (table_of subs.old))) }
 {
     if let Ok(rest) = consume(b"GR", input) {
-        let (name, rest) = guard_temporary(below, alloc, depth, subs, rest)?;
-        return Ok((name, rest));
+        return guard_temporary(below, alloc, depth, subs, rest);
     }
     if let Ok(rest) = consume(b"Gr", input) {
-        let (resource, rest) = java_resource(alloc, depth, rest)?;
-        return Ok((resource, rest));
+        return java_resource(alloc, depth, rest);
     }
     if let Ok(rest) = consume(b"GT", input) {
-        let (name, rest) = transaction_clone(below, alloc, depth, subs, rest)?;
-        return Ok((name, rest));
+        return transaction_clone(below, alloc, depth, subs, rest);
     }
     Err(Error::UnexpectedText)
 }

@@ -52,12 +52,10 @@ pub fn first_prefix<'b, B: Below>(
             Ok((handle, rest))
         }
         Turn::Decltype => {
-            let (handle, rest) = first_decltype(below, alloc, depth, subs, input)?;
-            Ok((handle, rest))
+            first_decltype(below, alloc, depth, subs, input)
         }
         Turn::Name => {
-            let (handle, rest) = first_name(below, alloc, depth, subs, input)?;
-            Ok((handle, rest))
+            first_name(below, alloc, depth, subs, input)
         }
         Turn::Template | Turn::None => Err(no_prefix(input)),
     }
@@ -142,8 +140,7 @@ pub fn prefix_turn<'b, B: Below>(
             Ok((handle, rest))
         }
         Turn::Decltype => {
-            let (handle, rest) = turn_decltype(below, alloc, depth, subs, input, prefix)?;
-            Ok((handle, rest))
+            turn_decltype(below, alloc, depth, subs, input, prefix)
         }
         Turn::Template => {
             let (args, rest) = template_args(below, alloc, depth, subs, input)?;
@@ -151,8 +148,7 @@ pub fn prefix_turn<'b, B: Below>(
             Ok((handle, rest))
         }
         Turn::Name => {
-            let (handle, rest) = turn_name(below, alloc, depth, subs, input, prefix)?;
-            Ok((handle, rest))
+            turn_name(below, alloc, depth, subs, input, prefix)
         }
         Turn::None => Ok((prefix, input)),
     }

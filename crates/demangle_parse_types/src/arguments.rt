@@ -165,8 +165,7 @@ pub fn template_arg_by<'b, B: Below>(
     if let Ok((ty, rest)) = passed(below.type_handle(alloc, depth, subs, input))? {
         return Ok((TemplateArg::TypeArg(ty), rest));
     }
-    let (pack, rest) = argument_pack(below, alloc, depth, subs, input)?;
-    Ok((pack, rest))
+    argument_pack(below, alloc, depth, subs, input)
 }
 
 /// A pack of arguments: the last alternative of an argument.
@@ -207,6 +206,5 @@ fn pack_list<'b, B: Below>(
     if next_is(b'E', input) {
         return Ok((Vec::new(alloc), input));
     }
-    let (args, rest) = all_arguments(below, alloc, depth, subs, input)?;
-    Ok((args, rest))
+    all_arguments(below, alloc, depth, subs, input)
 }

@@ -31,8 +31,7 @@ pub fn boxed_expression<'b, B: Below>(
 {
     let mark = subs.lengths();
     let answer = below.expression(alloc, depth, subs, input);
-    let (boxed, rest) = in_box(alloc, subs, mark, answer)?;
-    Ok((boxed, rest))
+    in_box(alloc, subs, mark, answer)
 }
 
 /// A name in a box.
@@ -51,8 +50,7 @@ pub fn boxed_name<'b, B: Below>(
 {
     let mark = subs.lengths();
     let answer = below.name(alloc, depth, subs, input);
-    let (boxed, rest) = in_box(alloc, subs, mark, answer)?;
-    Ok((boxed, rest))
+    in_box(alloc, subs, mark, answer)
 }
 
 /// The name of a function or a variable with its types, in a box.
@@ -71,8 +69,7 @@ pub fn boxed_encoding<'b, B: Below>(
 {
     let mark = subs.lengths();
     let answer = below.encoding(alloc, depth, subs, input);
-    let (boxed, rest) = in_box(alloc, subs, mark, answer)?;
-    Ok((boxed, rest))
+    in_box(alloc, subs, mark, answer)
 }
 
 /// A mangled name in a box.
@@ -91,6 +88,5 @@ pub fn boxed_mangled_name<'b, B: Below>(
 {
     let mark = subs.lengths();
     let answer = below.mangled_name(alloc, depth, subs, input);
-    let (boxed, rest) = in_box(alloc, subs, mark, answer)?;
-    Ok((boxed, rest))
+    in_box(alloc, subs, mark, answer)
 }

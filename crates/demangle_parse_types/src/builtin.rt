@@ -77,16 +77,13 @@ pub fn parametric_builtin_type<'b, B: Below>(
     let depth = depth.enter()?;
     let rest = consume(b"D", input)?;
     if let Ok(rest) = consume(b"F", rest) {
-        let (float, rest) = float_type(depth, rest)?;
-        return Ok((float, rest));
+        return float_type(depth, rest);
     }
     if let Ok(rest) = consume(b"B", rest) {
-        let (bits, rest) = bit_int(below, alloc, depth, subs, Signedness::Signed, rest)?;
-        return Ok((bits, rest));
+        return bit_int(below, alloc, depth, subs, Signedness::Signed, rest);
     }
     if let Ok(rest) = consume(b"U", rest) {
-        let (bits, rest) = bit_int(below, alloc, depth, subs, Signedness::Unsigned, rest)?;
-        return Ok((bits, rest));
+        return bit_int(below, alloc, depth, subs, Signedness::Unsigned, rest);
     }
     if rest.is_empty() {
         return Err(Error::UnexpectedEnd);

@@ -50,8 +50,7 @@ pub fn type_handle_by<'b, B: Below>(
         (table_of subs.old) (table_of subs.new) }
 {
     let depth = depth.enter()?;
-    let (handle, rest) = type_alternatives(below, alloc, depth, subs, input)?;
-    Ok((handle, rest))
+    type_alternatives(below, alloc, depth, subs, input)
 }
 
 /// The alternatives of a type, behind its level, from the first one on that the next bytes leave.
@@ -100,8 +99,7 @@ fn any_type<'b, B: Below>(
     if let Ok(found) = type_extension(below, alloc, depth, subs, input)? {
         return Ok(found);
     }
-    let (handle, rest) = qualified_or_named(below, alloc, depth, subs, input)?;
-    Ok((handle, rest))
+    qualified_or_named(below, alloc, depth, subs, input)
 }
 
 /// A type with a qualifier of a compiler's own: `U <source-name> [<template-args>] <type>`.
@@ -175,8 +173,7 @@ fn qualified_or_named<'b, B: Below>(
     if let Ok(found) = type_qualified(below, alloc, depth, subs, input)? {
         return Ok(found);
     }
-    let (handle, rest) = type_names(below, alloc, depth, subs, input)?;
-    Ok((handle, rest))
+    type_names(below, alloc, depth, subs, input)
 }
 
 /// A reference where no arguments follow, and else the alternatives from classes on: such a reference is no class.
@@ -198,8 +195,7 @@ fn reference_or_named<'b, B: Below>(
             return Ok((type_of(found), rest));
         }
     }
-    let (handle, rest) = type_names(below, alloc, depth, subs, input)?;
-    Ok((handle, rest))
+    type_names(below, alloc, depth, subs, input)
 }
 
 /// Classes and enumerations, references, and what comes after these.
@@ -227,8 +223,7 @@ fn type_names<'b, B: Below>(
     if let Ok(found) = type_substitution(depth, subs, input)? {
         return Ok(found);
     }
-    let (handle, rest) = function_or_shape(below, alloc, depth, subs, input)?;
-    Ok((handle, rest))
+    function_or_shape(below, alloc, depth, subs, input)
 }
 
 /// Functions, and what comes after these.
@@ -253,8 +248,7 @@ fn function_or_shape<'b, B: Below>(
         }
         Err(_) => {}
     }
-    let (handle, rest) = type_shapes(below, alloc, depth, subs, input)?;
-    Ok((handle, rest))
+    type_shapes(below, alloc, depth, subs, input)
 }
 
 /// A reference, which is a type where no arguments follow.
@@ -310,8 +304,7 @@ fn type_shapes<'b, B: Below>(
         let handle = add_type(subs, mark, TypeNode::PointerToMember(member))?;
         return Ok((handle, rest));
     }
-    let (handle, rest) = type_templates(below, alloc, depth, subs, input)?;
-    Ok((handle, rest))
+    type_templates(below, alloc, depth, subs, input)
 }
 
 /// Template parameters, templates with arguments, `decltype`, and the marks before a type.
@@ -342,8 +335,7 @@ fn type_templates<'b, B: Below>(
         }
         Err(_) => {}
     }
-    let (handle, rest) = type_marks(below, alloc, depth, subs, input)?;
-    Ok((handle, rest))
+    type_marks(below, alloc, depth, subs, input)
 }
 
 /// A template parameter, unless arguments follow that are its own.

@@ -86,8 +86,7 @@ pub fn ctor_dtor_name<'b, B: Below>(
         return Err(Error::UnexpectedEnd);
     }
     if let Ok(rest) = consume(b"CI", input) {
-        let (name, rest) = inherited_constructor(below, alloc, depth, subs, rest)?;
-        return Ok((name, rest));
+        return inherited_constructor(below, alloc, depth, subs, rest);
     }
     if let Ok(rest) = consume(b"C", input) {
         let (constructor, rest) = constructor_word(rest)?;

@@ -45,8 +45,7 @@ pub fn unqualified_name<'b, B: Below>(
         (table_of subs.old) (table_of subs.new) }
 {
     let depth = depth.enter()?;
-    let (name, rest) = unqualified_alternatives(below, alloc, depth, subs, input)?;
-    Ok((name, rest))
+    unqualified_alternatives(below, alloc, depth, subs, input)
 }
 
 /// The alternatives of a name, behind its level, from the first one on that the next bytes leave.
@@ -92,8 +91,7 @@ fn any_unqualified<'b, B: Below>(
         let (tags, rest) = restored(subs, mark, answer)?;
         return Ok((UnqualifiedName::Operator(operator, tags), rest));
     }
-    let (name, rest) = no_operator(below, alloc, depth, subs, input)?;
-    Ok((name, rest))
+    no_operator(below, alloc, depth, subs, input)
 }
 
 /// Constructors and destructors, and what comes after these.
@@ -116,8 +114,7 @@ fn no_operator<'b, B: Below>(
         let (tags, rest) = restored(subs, mark, answer)?;
         return Ok((UnqualifiedName::CtorDtor(name, tags), rest));
     }
-    let (name, rest) = source_or_unnamed(below, alloc, depth, subs, input)?;
-    Ok((name, rest))
+    source_or_unnamed(below, alloc, depth, subs, input)
 }
 
 /// Names of the source, with `L` before those of internal linkage, and what has none.
@@ -147,8 +144,7 @@ fn source_or_unnamed<'b, B: Below>(
         let (tags, rest) = abi_tags(alloc, depth, rest)?;
         return Ok((UnqualifiedName::Source(name, tags), rest));
     }
-    let (name, rest) = no_source_name(below, alloc, depth, subs, input)?;
-    Ok((name, rest))
+    no_source_name(below, alloc, depth, subs, input)
 }
 
 /// A closure or an unnamed type.
