@@ -31,6 +31,7 @@ use std::alloc::Global;
 ///                    ::= <source-name> [<abi-tags>] | L <source-name> [<discriminator>] [<abi-tags>]
 ///                    ::= <unnamed-type-name> [<abi-tags>] | <closure-type-name> [<abi-tags>]
 /// ```
+#[inline(always)]
 #[tactic(auto, using(demangle_forms::proofs::NameLaws::unqualified_name_row_is), unfolding(demangle_forms::specs::NameForms::unqualified_name_row, demangle_forms::specs::Starts::unqualified_names_at))]
 pub fn unqualified_name<'b, B: Below>(
     below: B,
@@ -49,6 +50,7 @@ pub fn unqualified_name<'b, B: Below>(
 }
 
 /// The alternatives of a name, behind its level, from the first one on that the next bytes leave.
+#[inline(always)]
 #[tactic(auto)]
 fn unqualified_alternatives<'b, B: Below>(
     below: B,
@@ -118,6 +120,7 @@ fn no_operator<'b, B: Below>(
 }
 
 /// Names of the source, with `L` before those of internal linkage, and what has none.
+#[inline(always)]
 #[tactic(auto, using(demangle_forms::proofs::Lasting::lasting), unfolding(demangle_forms::specs::Starts::source_names_at))]
 fn source_or_unnamed<'b, B: Below>(
     below: B,

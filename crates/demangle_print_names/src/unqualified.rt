@@ -73,6 +73,7 @@ pub fn abi_tags<'subs, W: DemangleWrite, B: Below<'subs, W>>(
 }
 
 /// A name of any kind and its tags.
+#[inline(always)]
 fn name_and_tags<'subs, W: DemangleWrite, B: Below<'subs, W>>(
     below: B,
     node: &'subs UnqualifiedName,
@@ -114,6 +115,7 @@ fn name_and_tags<'subs, W: DemangleWrite, B: Below<'subs, W>>(
 }
 
 /// A name without its scope.
+#[inline(always)]
 pub fn unqualified_name<'subs, W: DemangleWrite, B: Below<'subs, W>>(
     below: B,
     node: &'subs UnqualifiedName,

@@ -55,6 +55,7 @@ pub fn non_substitution<'subs, W: DemangleWrite, B: Below<'subs, W>>(
 }
 
 /// A type.
+#[inline(always)]
 pub fn type_handle<'subs, W: DemangleWrite, B: Below<'subs, W>>(
     below: B,
     node: &'subs TypeHandle,
@@ -74,6 +75,7 @@ pub fn type_handle<'subs, W: DemangleWrite, B: Below<'subs, W>>(
 }
 
 /// A prefix.
+#[inline(always)]
 pub fn prefix_handle<'subs, W: DemangleWrite, B: Below<'subs, W>>(
     below: B,
     node: &'subs PrefixHandle,

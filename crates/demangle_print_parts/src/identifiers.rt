@@ -53,6 +53,7 @@ fn write_name<'subs, W: DemangleWrite>(bytes: &'subs [u8], ctx: &mut DemangleCon
 }
 
 /// The line of an identifier.
+#[inline(always)]
 pub fn identifier<'subs, W: DemangleWrite, B: Below<'subs, W>>(
     below: B,
     node: &Identifier,
@@ -74,6 +75,7 @@ pub fn identifier<'subs, W: DemangleWrite, B: Below<'subs, W>>(
 }
 
 /// The line of a source name.
+#[inline(always)]
 pub fn source_name<'subs, W: DemangleWrite, B: Below<'subs, W>>(
     below: B,
     node: &SourceName,

@@ -43,6 +43,7 @@ pub fn ref_qualifier<'subs, W: DemangleWrite, B: Below<'subs, W>>(
 }
 
 /// The same behind a space, where it is there.
+#[inline(always)]
 pub fn reference_mark<'subs, W: DemangleWrite, B: Below<'subs, W>>(
     below: B,
     mark: &Option<RefQualifier>,
