@@ -58,7 +58,7 @@ found_ascii : (c : ℕ) (bs : List ℕ) → c < 128 → is_identifier_byte c ≡
 found_ascii c bs small e = ap (λ z. char_len_of z c bs) (lt-ltb c 128 small) ∙ ap one_if e
 
 -- the first byte of a character past U+007F is none below 128
-past_ascii : (xs : List ℕ) → 0 < sequence_len xs → char_len xs ≡ sequence_len xs
+pub past_ascii : (xs : List ℕ) → 0 < sequence_len xs → char_len xs ≡ sequence_len xs
 past_ascii [] h = absurd (omega (arith, h, no_sequence))
 past_ascii (b ∷ bs) h = ap (λ z. char_len_of z b bs) (le-ltb b 128 (omega (arith, (sequence_begins b bs h).0)))
 

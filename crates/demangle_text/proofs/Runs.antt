@@ -66,7 +66,5 @@ pub run_inside : (bs : List ℕ) → identifier_len bs ≤ length bs
 run_inside bs = past_inside 0 bs
 
 -- from an index on
-pub turn : (bs : List ℕ) (i n : ℕ) → n ≡ char_len (drop i bs) → 0 < n → identifier_len (drop i bs) ≡ n + identifier_len (drop (i + n) bs)
-turn bs i n e h =
-    let k = run_goes_on (drop i bs) (subst (λ m. 0 < m) e h) in
-    subst (λ m. identifier_len (drop i bs) ≡ m + identifier_len (drop m (drop i bs))) (sym e) k ∙ ap (λ xs. n + identifier_len xs) (drop-drop n i bs)
+pub turn : (bs : List ℕ) (i n : ℕ) → identifier_len (drop i bs) ≡ n + identifier_len (drop n (drop i bs)) → identifier_len (drop i bs) ≡ n + identifier_len (drop (i + n) bs)
+turn bs i n e = e ∙ ap (λ xs. n + identifier_len xs) (drop-drop n i bs)

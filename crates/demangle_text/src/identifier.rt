@@ -1,7 +1,8 @@
 //! Identifiers in UTF-8.
 
-ghost use Rattle.std.specs.Prelude.{◌≡◌, ◌≤◌, length};
-ghost use Rattle.demangle_text.specs.Characters.{is_identifier_byte, sequence_len, char_len, identifier_len};
+ghost use Rattle.std.specs.Prelude.{◌≡◌, ◌+◌, ◌≤◌, length, drop};
+ghost use Rattle.demangle_text.specs.Bytes.{span};
+ghost use Rattle.demangle_text.specs.Characters.{is_identifier_byte, sequence_len, identifier_len};
 ghost use Rattle.demangle_text.specs.Characters.{AreIdentifierChars};
 
 /// Whether an ASCII byte is a character of an identifier.
@@ -30,16 +31,30 @@ fn sequence_len(bytes: &[u8]) -> usize
     }
 }
 
-/// How many bytes a character of an identifier takes at the front, and 0 where there is none.
-#[tactic(auto, using(crate::proofs::Runs::sequence_len_inside))]
-fn char_len(bytes: &[u8]) -> usize
-    ensures value { result ≡ char_len bytes.now }
+/// How many ASCII characters of an identifier stand at the front.
+fn ascii_len(bytes: &[u8]) -> usize
+    ensures value { result ≡ span is_identifier_byte bytes.now }
     ensures inside { result ≤ length bytes.now }
 {
-    match bytes {
-        [] => 0,
-        [byte, ..] if *byte < 128 => is_identifier_byte(*byte) as usize,
-        _ => sequence_len(bytes),
+    for (i, byte) in bytes.iter().enumerate() {
+        if !is_identifier_byte(*byte) {
+            return i;
+        }
+    }
+    bytes.len()
+}
+
+/// How many bytes the ASCII characters of an identifier take at the front; where there are none, those of one character
+/// past U+007F.
+#[tactic(auto, using(crate::proofs::Parts::parts))]
+fn part_len(bytes: &[u8]) -> usize
+    ensures goes_on { identifier_len bytes.now ≡ result + identifier_len (drop result bytes.now) }
+    ensures ends { result ≡ 0 → identifier_len bytes.now ≡ 0 }
+    ensures inside { result ≤ length bytes.now }
+{
+    match ascii_len(bytes) {
+        0 => sequence_len(bytes),
+        count => count,
     }
 }
 
@@ -51,7 +66,7 @@ pub fn identifier_len(bytes: &[u8]) -> usize
 {
     let mut count = 0;
     while count < bytes.len() {
-        let len = char_len(&bytes[count..]);
+        let len = part_len(&bytes[count..]);
         if len == 0 {
             break;
         }
