@@ -5,11 +5,14 @@ ghost use Rattle.demangle_text.specs.Bytes.{span};
 ghost use Rattle.demangle_text.specs.Characters.{is_identifier_byte, sequence_len, identifier_len};
 ghost use Rattle.demangle_text.specs.Characters.{AreIdentifierChars};
 
-/// Whether an ASCII byte is a character of an identifier.
+/// Whether an ASCII byte is a character of an identifier. Most are small letters, so these are tried first.
 fn is_identifier_byte(byte: u8) -> bool
     ensures { result ≡ is_identifier_byte byte }
 {
-    matches!(byte, b'0'..=b'9' | b'A'..=b'Z' | b'a'..=b'z' | b'$' | b'_' | b'.')
+    if matches!(byte, b'a'..=b'z') {
+        return true;
+    }
+    matches!(byte, b'0'..=b'9' | b'A'..=b'Z' | b'$' | b'_' | b'.')
 }
 
 /// How many bytes a character past U+007F takes at the front, and 0 where there is none (the Unicode Standard, table
