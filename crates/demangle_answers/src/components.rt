@@ -29,6 +29,7 @@ use demangle_table::SubstitutionTable;
 use demangle_text::{IndexStr, Result};
 
 /// A type, ABI section 5.1.5, <type>.
+#[inline(always)]
 pub fn add_type(
     subs: &mut SubstitutionTable,
     mark: (usize, usize),
@@ -76,6 +77,7 @@ pub fn add_member_template(
 
 /// A prefix, ABI section 5.1.2, <prefix>. Where `E` is next the whole name ends with it, and it goes to the second
 /// list.
+#[inline(always)]
 pub fn add_prefix<'b>(
     subs: &mut SubstitutionTable,
     mark: (usize, usize),

@@ -28,6 +28,7 @@ pub fn passed<X>(answer: Result<X>) -> Result<Result<X>>
 }
 
 /// The answer. For a failure the table is cut back.
+#[inline(always)]
 pub fn restored<X>(
     subs: &mut SubstitutionTable,
     mark: (usize, usize),
@@ -64,6 +65,7 @@ pub fn kept<H: Discard, X>(
 }
 
 /// The position of a new component. `OutOfMemory` where it was handed back: it is dropped, and the table is cut back.
+#[inline(always)]
 pub fn inserted<X: Discard>(
     subs: &mut SubstitutionTable,
     mark: (usize, usize),

@@ -198,6 +198,7 @@ impl<'a, 'w, T: InnerNode, S: 'a, W: 'w + DemangleWrite> Context<'a, 'w, T, S, W
     /// Writes a text: the listener is told it in one piece, then its last character is kept and the room falls by its
     /// length. An empty text does nothing. `TooLong` comes exactly where the text is longer than the room, before the
     /// listener is asked; `Sink` and `OutOfMemory` only where the listener's count of them rose.
+    #[inline(always)]
     pub fn write(&mut self, s: &str) -> Result<(), DemangleError>
         ensures { Writing (view T.tree W.seen self.old) (view T.tree W.seen self.new) result s.now }
     {

@@ -55,6 +55,7 @@ impl<'a, 'w, T: RefersTo<S>, S: 'a, W: 'w + DemangleWrite> Context<'a, 'w, T, S,
     }
 
     /// One step of text.
+    #[inline(always)]
     pub fn text(&mut self, text: &str)
         ensures { Steps (page T.tree T.table W.seen self.old) (page T.tree T.table W.seen self.new)
             (written text.now) }
@@ -227,6 +228,7 @@ impl<'a, 'w, T: RefersTo<S>, S: 'a, W: 'w + DemangleWrite> Context<'a, 'w, T, S,
     }
 
     /// Turns a flag on or off.
+    #[inline(always)]
     pub fn turn(&mut self, flag: PrintFlag, on: bool)
         ensures { Steps (page T.tree T.table W.seen self.old) (page T.tree T.table W.seen self.new)
             (λ s. yes [] (flagged (flag_of flag) on s)) }

@@ -15,6 +15,7 @@ use demangle_text::{IndexStr, Result, consume, parse_unsigned};
 use std::alloc::Global;
 
 /// The ABI tags at the front, of which there may be none.
+#[inline(always)]
 #[tactic(auto, using(crate::proofs::Tags::tags), unfolding(demangle_grammar::specs::Code::cread))]
 pub fn abi_tags<'b>(
     alloc: Global,

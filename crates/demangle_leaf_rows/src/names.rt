@@ -20,6 +20,7 @@ impl ReadLeaf for Identifier {
 
     ghost leaf_tree = { tree_of_identifier };
 
+    #[inline(always)]
     #[tactic(auto, unfolding(demangle_grammar::specs::Code::cread, demangle_grammar::specs::Rows::rule))]
     fn read_leaf<'b>(depth: Depth, input: IndexStr<'b>) -> Result<(Identifier, IndexStr<'b>)> {
         let _depth = depth.enter()?;
@@ -57,6 +58,7 @@ impl ReadLeaf for SourceName {
 
     ghost leaf_tree = { tree_of_source_name };
 
+    #[inline(always)]
     #[tactic(auto, using(crate::proofs::Indexes::indexes), unfolding(demangle_grammar::specs::Code::cread, demangle_grammar::specs::Rows::rule))]
     fn read_leaf<'b>(depth: Depth, input: IndexStr<'b>) -> Result<(SourceName, IndexStr<'b>)> {
         let depth = depth.enter()?;
@@ -81,6 +83,7 @@ impl ReadLeaf for AbiTag {
 
     ghost leaf_tree = { tree_of_abi_tag };
 
+    #[inline(always)]
     #[tactic(auto, unfolding(demangle_grammar::specs::Code::cread, demangle_grammar::specs::Rows::rule))]
     fn read_leaf<'b>(depth: Depth, input: IndexStr<'b>) -> Result<(AbiTag, IndexStr<'b>)> {
         let depth = depth.enter()?;

@@ -72,6 +72,7 @@ impl ReadLeaf for Discriminator {
 }
 
 /// A reference to a numbered component of a table that has so many, or a word for a component.
+#[inline(always)]
 #[tactic(auto, unfolding(demangle_grammar::specs::Code::cread, demangle_grammar::specs::Rows::rule))]
 pub fn substitution<'b>(
     depth: Depth,

@@ -102,6 +102,7 @@ fn component_of<'a>(subs: &'a SubstitutionTable, prefix: PrefixHandle) -> Option
 /// The nested name of these parts, ABI section 5.1.2, <nested-name>: its last name is a copy of that of its prefix.
 /// `UnexpectedText` where the prefix ends with no name and no template arguments, `OutOfMemory` where the copy is
 /// refused.
+#[inline(always)]
 #[tactic(auto, unfolding(demangle_grammar::specs::Code::taken_over))]
 pub fn take_over(
     alloc: Global,

@@ -49,6 +49,7 @@ impl SubstitutionTable {
 
     /// Adds a numbered component, and answers its position. For want of memory the component comes back, and the table
     /// is as before. The original's method of this name.
+    #[inline(always)]
     pub fn insert(&mut self, entity: Substitutable) -> Result<usize, Substitutable>
         ensures position { IfOk result (λ n. n ≡ size N (table_of self.old)) }
         ensures inserted { OnOk result (table_of self.new
@@ -61,6 +62,7 @@ impl SubstitutionTable {
 
     /// Adds a component that no number refers to, and answers its position among these. For want of memory the
     /// component comes back, and the table is as before. The original's method of this name.
+    #[inline(always)]
     pub fn insert_non_substitution(&mut self, entity: Substitutable) -> Result<usize, Substitutable>
         ensures position { IfOk result (λ n. n ≡ size U (table_of self.old)) }
         ensures inserted { OnOk result (table_of self.new

@@ -45,6 +45,7 @@ fn args_of_nested_name<'a>(node: &'a NestedName) -> Step<&'a TemplateArgs>
     }
 }
 
+#[inline(always)]
 #[cycle(args)]
 #[tactic(auto, using(demangle_nodes::proofs::Parts::parts_name))]
 fn args_of_name<'a>(node: &'a Name) -> Step<&'a TemplateArgs>
