@@ -90,12 +90,15 @@ pub fn print<'a, X: Demangle<'a, W>, W: 'a + DemangleWrite>(
     options: DemangleOptions,
     out: &mut W,
 ) -> Option<Result<(), DemangleError>> {
-    let mut ctx = DemangleContext::new(alloc, subs, input, options, out).ok()?;
-    let answer = node.demangle(&mut ctx, None);
-    if ctx.recursion_level() != 0 {
-        return None;
+    match DemangleContext::new(alloc, subs, input, options, out) {
+        Ok(mut ctx) => {
+            let answer = node.demangle(&mut ctx, None);
+            let level = ctx.recursion_level();
+            let _out = ctx.end();
+            if level == 0 { Some(answer) } else { None }
+        }
+        Err(error) => Some(Err(error)),
     }
-    Some(answer)
 }
 
 /// What printing a whole name answers; `None` where it isn't read.
