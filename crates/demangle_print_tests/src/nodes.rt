@@ -33,6 +33,7 @@ enum Call {
 }
 
 /// Nodes that own no other.
+#[derive(Clone, Copy)]
 struct Leaves {
     types: [TypeHandle; 1],
     word: WellKnownComponent,
