@@ -139,30 +139,32 @@ fn done<'a>(
     }
 }
 
-/// How many items wait behind a call.
+/// How many items wait behind a call, and the level. The items that waited have a level each.
 fn left_behind(
     alloc: Global,
     call: Call,
     waiting: &[Item],
     subs: &SubstitutionTable,
     sink: &mut TextSink,
-) -> Result<usize, DemangleError> {
+) -> Result<(usize, u32), DemangleError> {
     let types = [int()];
     let mut ctx = DemangleContext::new(alloc, subs, b"", DemangleOptions::new(), sink)?;
     for item in waiting {
         if let Some(item) = inner_item(subs, *item) {
             ctx.push_inner(item)?;
         }
+        ctx.enter()?;
     }
     done(call, subs, &types, &mut ctx)?;
-    Ok(ctx.inner_len())
+    Ok((ctx.inner_len(), ctx.recursion_level()))
 }
 
 /// The number of the first case that comes out otherwise.
 fn first_other(alloc: Global, subs: &SubstitutionTable, cases: &[Case]) -> Option<usize> {
     for (i, (call, waiting, text, left)) in cases.iter().enumerate() {
         let mut sink = TextSink::new(alloc);
-        if left_behind(alloc, *call, *waiting, subs, &mut sink) != Ok(*left)
+        let level = waiting.len() as u32;
+        if left_behind(alloc, *call, *waiting, subs, &mut sink) != Ok((*left, level))
             || sink.as_str() != *text
         {
             return Some(i);

@@ -1,16 +1,13 @@
 //! Long lists, long chains of references, which take no stack, and a name whose text would never end.
 
 use crate::listener::Listener;
-use crate::printed::{class_name, int, is_added, is_printed, print, print_name};
+use crate::printed::{int, is_printed, print, print_name, read_type};
 use demangle_print::{Demangle, demangle_args};
 use demangle_release::release_table;
 use demangle_scope::{
     DemangleContext, DemangleError, DemangleOptions, ScopeItem, SinkFault, TextSink, scope_push,
 };
-use demangle_tree::{
-    AbiTags, CtorDtorName, Identifier, Prefix, PrefixHandle, SourceName, Substitutable,
-    SubstitutionTable, TypeHandle, UnqualifiedName,
-};
+use demangle_tree::{CtorDtorName, Identifier, SourceName, SubstitutionTable, TypeHandle};
 use std::alloc::{AllocError, Global};
 
 /// How many members a long list has, and how many links a long chain.
@@ -61,60 +58,53 @@ fn a_long_list_is_printed(rt: HostRuntime) {
     );
 }
 
-/// A class, and constructors, each in what is before it, so that each has the class as its leaf name; `None` for want
-/// of memory.
-fn long_chain(alloc: Global) -> Option<SubstitutionTable> {
-    let mut subs = SubstitutionTable::new(alloc);
-    let class = Substitutable::Prefix(Prefix::Unqualified(class_name(alloc)));
-    let mut is_made = is_added(&mut subs, class);
-    for end in 0..MANY {
-        let link = Prefix::Nested(PrefixHandle::BackReference(end), constructor(alloc));
-        is_made = is_added(&mut subs, Substitutable::Prefix(link)) && is_made;
+/// The name of a class, and of so many constructors, each in what is before it.
+fn chain_bytes(alloc: Global) -> Result<Vec<u8>, AllocError> {
+    let mut bytes = Vec::new(alloc);
+    bytes.extend_from_slice(b"N1a")?;
+    for _ in 0..MANY {
+        bytes.extend_from_slice(b"C1")?;
     }
-    if !is_made {
-        release_table(subs);
-        return None;
-    }
-    Some(subs)
-}
-
-fn constructor(alloc: Global) -> UnqualifiedName {
-    UnqualifiedName::CtorDtor(
-        CtorDtorName::CompleteConstructor(None),
-        AbiTags(Vec::new(alloc)),
-    )
+    bytes.extend_from_slice(b"E")?;
+    Ok(bytes)
 }
 
 /// What printing a constructor answers that is inherited from the chain's end, in a class of another name.
 fn inherited(
     alloc: Global,
+    end: TypeHandle,
     subs: &SubstitutionTable,
+    input: &[u8],
     sink: &mut TextSink,
 ) -> Result<(), DemangleError> {
-    let own = SourceName(Identifier { start: 1, end: 2 });
-    let inherited = CtorDtorName::CompleteConstructor(Some(TypeHandle::BackReference(MANY)));
+    let own = SourceName(Identifier { start: 0, end: 1 });
+    let constructor = CtorDtorName::CompleteConstructor(Some(end));
     let nothing = None;
     let scope = scope_push(&nothing, ScopeItem::SourceName(&own));
-    let mut ctx = DemangleContext::new(alloc, subs, b"ab", DemangleOptions::new(), sink)?;
-    inherited.demangle(&mut ctx, scope)
+    let mut ctx = DemangleContext::new(alloc, subs, input, DemangleOptions::new(), sink)?;
+    constructor.demangle(&mut ctx, scope)
 }
 
-fn is_leaf_found(alloc: Global, subs: &SubstitutionTable) -> bool {
+fn is_leaf_found(alloc: Global, end: TypeHandle, subs: &SubstitutionTable, input: &[u8]) -> bool {
     let mut sink = TextSink::new(alloc);
-    inherited(alloc, subs, &mut sink) == Ok(()) && sink.as_str() == "a"
+    inherited(alloc, end, subs, input, &mut sink) == Ok(()) && sink.as_str() == "a"
 }
 
-fn is_stopped(alloc: Global, subs: &SubstitutionTable) -> bool {
+fn is_stopped(alloc: Global, end: TypeHandle, subs: &SubstitutionTable, input: &[u8]) -> bool {
     let mut sink = TextSink::new(alloc);
-    let end = PrefixHandle::BackReference(MANY);
-    let answer = print(alloc, &end, subs, b"ab", DemangleOptions::new(), &mut sink);
+    let answer = print(alloc, &end, subs, input, DemangleOptions::new(), &mut sink);
     answer == Some(Err(DemangleError::TooMuchRecursion)) && sink.as_str().is_empty()
 }
 
 /// Whether a leaf name is found through the chain, and whether printing it stops at the limit.
 fn chain_answers(alloc: Global) -> Option<(bool, bool)> {
-    let subs = long_chain(alloc)?;
-    let answers = (is_leaf_found(alloc, &subs), is_stopped(alloc, &subs));
+    let bytes = chain_bytes(alloc).ok()?;
+    let input = bytes.as_slice();
+    let (end, subs) = read_type(alloc, input)?;
+    let answers = (
+        is_leaf_found(alloc, end, &subs, input),
+        is_stopped(alloc, end, &subs, input),
+    );
     release_table(subs);
     Some(answers)
 }

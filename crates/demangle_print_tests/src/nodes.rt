@@ -1,20 +1,20 @@
 //! Single nodes: what stands behind them, leaf names, flags, components.
 
-use crate::printed::{class_name, constant, int, is_added, is_added_besides};
+use crate::printed::{constant, int, read_type};
 use demangle_print::{Demangle, DemangleAsInner, DemangleAsLeaf, demangle_args, demangle_inner};
 use demangle_release::release_table;
 use demangle_scope::{DemangleContext, DemangleError, DemangleOptions, InnerItem, TextSink};
 use demangle_text::Error;
 use demangle_tree::{
-    BuiltinType, LeafName, NonSubstitution, OperatorName, Prefix, QualifiedBuiltin, Substitutable,
-    SubstitutionTable, TemplateParam, TemplateTemplateParam, TypeHandle, TypeNode, UnnamedTypeName,
-    UnresolvedType, UnscopedName, UnscopedTemplateName,
+    BuiltinType, LeafName, NonSubstitution, OperatorName, QualifiedBuiltin, SubstitutionTable,
+    TemplateParam, TypeHandle, TypeNode, UnnamedTypeName,
 };
 use demangle_vocab::{StandardBuiltinType, WellKnownComponent};
 use std::alloc::Global;
 
-/// What is printed, and with which flag.
-#[derive(Clone, Copy, Debug, PartialEq, Eq)]
+/// What is printed, and with which flag: of the first component of a type, of the first of its second list, or of nodes
+/// that reading doesn't make.
+#[derive(Clone, Copy)]
 enum Call {
     AsInner,
     Inner,
@@ -28,9 +28,38 @@ enum Call {
     PackInPack,
     QualifiedBuiltin,
     Cast,
-    Component(usize),
+    Component,
     OtherComponent,
 }
+
+/// A call, the type, and what it writes or answers.
+type Case = (Call, &'static [u8], Result<&'static str, DemangleError>);
+
+const CASES: [Case; 19] = [
+    (Call::AsInner, b"Pi", Ok("*")),
+    (Call::Inner, b"Pi", Ok("*")),
+    (Call::Args, b"i", Ok("(int)")),
+    (Call::ArgsWithObject, b"i", Ok("(this int)")),
+    (Call::Leaf, b"i", Ok("string")),
+    (Call::LeafOfComponent, b"i", Ok("string")),
+    (Call::LeafOfUnnamed, b"i", Ok("{unnamed type#4}")),
+    (
+        Call::Parameter,
+        b"i",
+        Err(DemangleError::Reference(Error::BadTemplateArgReference)),
+    ),
+    (Call::ParameterOfClosure, b"i", Ok("auto:5")),
+    (Call::PackInPack, b"Dpi", Ok("int")),
+    (Call::QualifiedBuiltin, b"i", Ok("int const")),
+    (Call::Cast, b"i", Ok(" int")),
+    (Call::OtherComponent, b"N1a1bE", Ok("a::b")),
+    (Call::Component, b"Pi", Ok("int*")),
+    (Call::Component, b"Dpi", Ok("int...")),
+    (Call::Component, b"NT3_1aE", Ok("auto:5")),
+    (Call::Component, b"DTsrT3_1aE", Ok("auto:5")),
+    (Call::Component, b"T3_IiE", Ok("auto:5")),
+    (Call::Component, b"1aIiE", Ok("a")),
+];
 
 /// Nodes that own no other.
 #[derive(Clone, Copy)]
@@ -56,53 +85,8 @@ fn sample_leaves() -> Leaves {
     }
 }
 
-const POINTER: usize = 0;
-
-const PACK: usize = 1;
-
-const PREFIX: usize = 2;
-
-const UNRESOLVED_TYPE: usize = 3;
-
-const TEMPLATE_TEMPLATE_PARAM: usize = 4;
-
-const TEMPLATE_NAME: usize = 5;
-
-const COMPONENTS: usize = 6;
-
-/// The component of this place, each of another kind.
-fn component(alloc: Global, place: usize) -> Substitutable {
-    let parameter = TemplateParam(4);
-    match place {
-        POINTER => Substitutable::TypeNode(TypeNode::PointerTo(int())),
-        PACK => Substitutable::TypeNode(TypeNode::PackExpansion(int())),
-        PREFIX => Substitutable::Prefix(Prefix::TemplateParam(parameter)),
-        UNRESOLVED_TYPE => Substitutable::UnresolvedType(UnresolvedType::Template(parameter, None)),
-        TEMPLATE_TEMPLATE_PARAM => {
-            Substitutable::TemplateTemplateParam(TemplateTemplateParam(parameter))
-        }
-        _ => Substitutable::UnscopedTemplateName(UnscopedTemplateName(UnscopedName::Unqualified(
-            class_name(alloc),
-        ))),
-    }
-}
-
-/// A table of these components, and of a pointer to `int` in its second list; `None` for want of memory.
-fn sample_table(alloc: Global) -> Option<SubstitutionTable> {
-    let mut subs = SubstitutionTable::new(alloc);
-    let mut is_made = is_added_besides(&mut subs, component(alloc, POINTER));
-    for place in 0..COMPONENTS {
-        is_made = is_added(&mut subs, component(alloc, place)) && is_made;
-    }
-    if !is_made {
-        release_table(subs);
-        return None;
-    }
-    Some(subs)
-}
-
-fn type_at(subs: &SubstitutionTable, place: usize) -> Option<&TypeNode> {
-    subs.get_type(&TypeHandle::BackReference(place))
+fn first_type(nodes: &SubstitutionTable) -> Option<&TypeNode> {
+    nodes.get_type(&TypeHandle::BackReference(0))
 }
 
 fn done<'a>(
@@ -112,17 +96,17 @@ fn done<'a>(
     ctx: &mut DemangleContext<'a, '_, TextSink>,
 ) -> Option<Result<(), DemangleError>> {
     Some(match call {
-        Call::AsInner => type_at(nodes, POINTER)?.demangle_as_inner(ctx, None),
-        Call::Inner => demangle_inner(InnerItem::Node(type_at(nodes, POINTER)?), ctx, None),
+        Call::AsInner => first_type(nodes)?.demangle_as_inner(ctx, None),
+        Call::Inner => demangle_inner(InnerItem::Node(first_type(nodes)?), ctx, None),
         Call::Args | Call::ArgsWithObject => demangle_args(&leaves.types, ctx, None),
         Call::Leaf => LeafName::WellKnownComponent(&leaves.word).demangle_as_leaf(ctx),
         Call::LeafOfComponent => leaves.word.demangle_as_leaf(ctx),
         Call::LeafOfUnnamed => leaves.unnamed.demangle_as_leaf(ctx),
         Call::Parameter | Call::ParameterOfClosure => leaves.parameter.demangle(ctx, None),
-        Call::PackInPack => type_at(nodes, PACK)?.demangle(ctx, None),
+        Call::PackInPack => first_type(nodes)?.demangle(ctx, None),
         Call::QualifiedBuiltin => leaves.qualified.demangle(ctx, None),
         Call::Cast => leaves.cast.demangle(ctx, None),
-        Call::Component(place) => nodes.get(place)?.demangle(ctx, None),
+        Call::Component => nodes.get(0)?.demangle(ctx, None),
         Call::OtherComponent => leaves.other.demangle(ctx, None),
     })
 }
@@ -130,94 +114,53 @@ fn done<'a>(
 fn turn_on(call: Call, ctx: &mut DemangleContext<'_, '_, TextSink>) {
     match call {
         Call::ArgsWithObject => ctx.flags.object = true,
-        Call::ParameterOfClosure => ctx.flags.lambda = true,
-        Call::Component(place) => ctx.flags.lambda = place >= PREFIX,
+        Call::ParameterOfClosure | Call::Component => ctx.flags.lambda = true,
         Call::PackInPack => ctx.flags.pack = true,
         _ => {}
     }
 }
 
-/// Whether a call needs no table.
-fn needs_no_table(call: Call) -> bool {
+/// Whether a call is over the table of the type, and not over an empty one.
+fn has_table(call: Call) -> bool {
     match call {
-        Call::PackInPack | Call::Component(_) | Call::OtherComponent => false,
-        _ => true,
+        Call::Component | Call::OtherComponent => true,
+        _ => false,
     }
 }
 
-/// What a call answers in a new context, with no scope, over an empty table where it needs none.
+/// What a call answers in a new context, with no scope.
 fn answer(
     alloc: Global,
     call: Call,
+    bytes: &[u8],
     nodes: &SubstitutionTable,
     empty: &SubstitutionTable,
     sink: &mut TextSink,
 ) -> Option<Result<(), DemangleError>> {
     let leaves = sample_leaves();
-    let subs = if needs_no_table(call) { empty } else { nodes };
-    let mut ctx = DemangleContext::new(alloc, subs, b"a", DemangleOptions::new(), sink).ok()?;
+    let subs = if has_table(call) { nodes } else { empty };
+    let mut ctx = DemangleContext::new(alloc, subs, bytes, DemangleOptions::new(), sink).ok()?;
     turn_on(call, &mut ctx);
     done(call, nodes, &leaves, &mut ctx)
 }
 
-fn is_answer(
-    alloc: Global,
-    call: Call,
-    nodes: &SubstitutionTable,
-    text: &str,
-    wanted: Result<(), DemangleError>,
-) -> bool {
+fn is_answer(alloc: Global, case: Case) -> Option<bool> {
+    let (call, bytes, wanted) = case;
+    let (_type, nodes) = read_type(alloc, bytes)?;
     let empty = SubstitutionTable::new(alloc);
     let mut sink = TextSink::new(alloc);
-    let answer = answer(alloc, call, nodes, &empty, &mut sink);
-    release_table(empty);
-    answer == Some(wanted) && sink.as_str() == text
-}
-
-/// Calls and the texts that they write.
-const CALLS: [(Call, &str); 18] = [
-    (Call::AsInner, "*"),
-    (Call::Inner, "*"),
-    (Call::Args, "(int)"),
-    (Call::ArgsWithObject, "(this int)"),
-    (Call::Leaf, "string"),
-    (Call::LeafOfComponent, "string"),
-    (Call::LeafOfUnnamed, "{unnamed type#4}"),
-    (Call::ParameterOfClosure, "auto:5"),
-    (Call::PackInPack, "int"),
-    (Call::QualifiedBuiltin, "int const"),
-    (Call::Cast, " int"),
-    (Call::OtherComponent, "int*"),
-    (Call::Component(POINTER), "int*"),
-    (Call::Component(PACK), "int..."),
-    (Call::Component(PREFIX), "auto:5"),
-    (Call::Component(UNRESOLVED_TYPE), "auto:5"),
-    (Call::Component(TEMPLATE_TEMPLATE_PARAM), "auto:5"),
-    (Call::Component(TEMPLATE_NAME), "a"),
-];
-
-fn first_other(alloc: Global, nodes: &SubstitutionTable) -> Option<Call> {
-    for (call, text) in CALLS {
-        if !is_answer(alloc, call, nodes, text, Ok(())) {
-            return Some(call);
-        }
-    }
-    let error = DemangleError::Reference(Error::BadTemplateArgReference);
-    if !is_answer(alloc, Call::Parameter, nodes, "", Err(error)) {
-        return Some(Call::Parameter);
-    }
-    None
-}
-
-/// The first call that comes out otherwise.
-fn outcome(alloc: Global) -> Option<Option<Call>> {
-    let nodes = sample_table(alloc)?;
-    let other = first_other(alloc, &nodes);
+    let answer = answer(alloc, call, bytes, &nodes, &empty, &mut sink);
     release_table(nodes);
-    Some(other)
+    release_table(empty);
+    Some(match wanted {
+        Ok(text) => answer == Some(Ok(())) && sink.as_str() == text,
+        Err(error) => answer == Some(Err(error)),
+    })
 }
 
 #[test]
 fn a_node_is_printed_by_itself(rt: HostRuntime) {
-    assert_eq!(rt; outcome(rt.alloc()), Some(None));
+    for (i, case) in CASES.iter().enumerate() {
+        assert_eq!(rt; is_answer(rt.alloc(), *case), Some(true), "case {i}");
+    }
 }

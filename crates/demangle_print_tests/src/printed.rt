@@ -1,11 +1,7 @@
 //! Names that are read and then printed. Nodes and tables are let go by calls, since each other crate that drops one
 //! proves the drops of all node types anew.
 
-use demangle_discard::Discard;
-use demangle_entries::{
-    AbiTags, BuiltinType, CvQualifiers, Identifier, MangledName, SourceName, Substitutable,
-    TypeHandle, UnqualifiedName,
-};
+use demangle_entries::{BuiltinType, CvQualifiers, MangledName, TypeHandle};
 use demangle_leaf_rows::ParseContext;
 use demangle_parse::Parse;
 use demangle_print::Demangle;
@@ -35,36 +31,6 @@ pub fn read_type(alloc: Global, bytes: &[u8]) -> Option<(TypeHandle, Substitutio
     }
     release_table(subs);
     None
-}
-
-/// Whether the component was added; where memory is wanting it is dropped.
-pub fn is_added(subs: &mut SubstitutionTable, component: Substitutable) -> bool {
-    match subs.insert(component) {
-        Ok(_) => true,
-        Err(component) => {
-            component.discard();
-            false
-        }
-    }
-}
-
-/// Whether the component was added to the second list; where memory is wanting it is dropped.
-pub fn is_added_besides(subs: &mut SubstitutionTable, component: Substitutable) -> bool {
-    match subs.insert_non_substitution(component) {
-        Ok(_) => true,
-        Err(component) => {
-            component.discard();
-            false
-        }
-    }
-}
-
-/// The identifier from 0 to 1, with no tags.
-pub fn class_name(alloc: Global) -> UnqualifiedName {
-    UnqualifiedName::Source(
-        SourceName(Identifier { start: 0, end: 1 }),
-        AbiTags(Vec::new(alloc)),
-    )
 }
 
 /// The qualifier `const`.
