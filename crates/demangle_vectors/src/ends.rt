@@ -75,6 +75,27 @@ fn a_failed_write_leaves_a_front(rt: HostRuntime) -> Result<(), Fail> {
     Ok(())
 }
 
+#[test]
+fn a_failed_message_changes_no_status(rt: HostRuntime) -> Result<(), Fail> {
+    for (word, status) in [
+        ("--bogus", Status::Usage),
+        ("--types", Status::ReadFault),
+        ("--help", Status::Help),
+    ] {
+        let mut words = Vec::new(rt.alloc());
+        words.push(String::from_str(rt.alloc(), word)?)?;
+        let first_read = Vec::from_slice(rt.alloc(), [0u64].as_slice())?;
+        let first_write = Vec::from_slice(rt.alloc(), [0u64].as_slice())?;
+        let mut source = FaultySource::new(Vec::new(rt.alloc()), 1, first_read);
+        let mut output = VecSink::new(rt.alloc());
+        let mut errors = FaultySink::new(rt.alloc(), 1, first_write);
+        let answer = run(rt.alloc(), words, &mut source, &mut output, &mut errors);
+        assert_eq!(rt; answer, status, "at {word}");
+        assert_eq!(rt; errors.bytes(), b"".as_slice(), "at {word}");
+    }
+    Ok(())
+}
+
 /// A name of so many bytes in all, of a function `a..a` of one `int`.
 fn long_name(alloc: Global, letters: usize) -> Result<Vec<u8>, Fail> {
     let mut name = Vec::new(alloc);
@@ -102,7 +123,7 @@ fn long_lines_stay(rt: HostRuntime) -> Result<(), Fail> {
         } else {
             output.extend_from_slice(input.as_slice())?;
         }
-        let ran = run_over(rt.alloc(), "", input.as_slice())?;
+        let ran = run_over(rt.alloc(), "-w", input.as_slice())?;
         assert_eq!(rt; ran.status, Status::Done);
         assert!(rt;
             ran.output.bytes() == output.as_slice(),

@@ -6,7 +6,7 @@ use cpp_demangle::{DemangleOptions, ParseOptions, SymbolFault, demangle_symbol};
 use std::test::Fail;
 
 /// Bytes that are no name, by why they aren't.
-const UNREAD: [(&[u8], Error); 14] = [
+const UNREAD: [(&[u8], Error); 15] = [
     (b"", Error::UnexpectedEnd),
     (b"_Z", Error::UnexpectedEnd),
     (b"Q", Error::UnexpectedEnd),
@@ -18,6 +18,7 @@ const UNREAD: [(&[u8], Error); 14] = [
     (b"_Z03foov", Error::UnexpectedText),
     (b"_Z3123i", Error::UnexpectedText),
     (b"_Z2\xc0\xafv", Error::UnexpectedText),
+    (b"_Z1\xc3v", Error::UnexpectedText),
     (b"_Z99999999999999999999f", Error::UnexpectedText),
     (b"_ZTC1a99999999999999999999_1b", Error::Overflow),
     (
@@ -43,6 +44,38 @@ const UNPRINTED: [(&[u8], DemangleError); 4] = [
     (b"_Z1fILi\xffEEvv", DemangleError::NotUtf8),
 ];
 
+const TOO_DEEP_TO_READ: SymbolFault = SymbolFault::Read(Error::TooMuchRecursion);
+
+const TOO_DEEP_TO_PRINT: SymbolFault = SymbolFault::Print(DemangleError::TooMuchRecursion);
+
+const TOO_LONG: SymbolFault = SymbolFault::Print(DemangleError::TooLong);
+
+const FORWARD: SymbolFault = SymbolFault::Print(DemangleError::Reference(
+    Error::ForwardTemplateArgReference,
+));
+
+/// Names, limits on the levels of reading, the levels of printing and the bytes of the text, and what becomes of them.
+const LIMITED: [(&[u8], u32, u32, usize, Result<&str, SymbolFault>); 18] = [
+    (b"i", 4, 128, 99, Err(TOO_DEEP_TO_READ)),
+    (b"i", 5, 128, 99, Ok("int")),
+    (b"Pi", 9, 128, 99, Err(TOO_DEEP_TO_READ)),
+    (b"Pi", 10, 128, 99, Ok("int*")),
+    (b"_Z1fv", 11, 128, 99, Err(TOO_DEEP_TO_READ)),
+    (b"_Z1fv", 12, 128, 99, Ok("f()")),
+    (b"1a", 8, 128, 99, Err(TOO_DEEP_TO_READ)),
+    (b"1a", 9, 128, 99, Ok("a")),
+    (b"i", 96, 3, 99, Err(TOO_DEEP_TO_PRINT)),
+    (b"i", 96, 4, 99, Ok("int")),
+    (b"i", 96, 128, 0, Err(TOO_LONG)),
+    (b"_Z1fv", 96, 128, 2, Err(TOO_LONG)),
+    (b"_Z1fv", 96, 128, 3, Ok("f()")),
+    (b"_Z3a\xc3\xa9v", 96, 128, 4, Err(TOO_LONG)),
+    (b"_Z3a\xc3\xa9v", 96, 128, 5, Ok("aé()")),
+    (b"_Z1fIT_Evv", 96, 128, 5, Err(TOO_LONG)),
+    (b"_Z1fIT_Evv", 96, 128, 6, Err(TOO_LONG)),
+    (b"_Z1fIT_Evv", 96, 128, 7, Err(FORWARD)),
+];
+
 #[test]
 fn other_bytes_are_refused_by_their_cause(rt: HostRuntime) {
     for (name, error) in UNREAD {
@@ -57,41 +90,36 @@ fn other_bytes_are_refused_by_their_cause(rt: HostRuntime) {
 
 #[test]
 fn a_limit_is_met_where_it_is_reached(rt: HostRuntime) {
-    let deep = Some(SymbolFault::Read(Error::TooMuchRecursion));
-    for (name, limit, fault) in [
-        (b"i".as_slice(), 4, deep),
-        (b"i".as_slice(), 5, None),
-        (b"Pi".as_slice(), 9, deep),
-        (b"Pi".as_slice(), 10, None),
-        (b"_Z1fv".as_slice(), 11, deep),
-        (b"_Z1fv".as_slice(), 12, None),
-        (b"1a".as_slice(), 8, deep),
-        (b"1a".as_slice(), 9, None),
-    ] {
-        let parse = ParseOptions::default().recursion_limit(limit);
-        let answer = demangle_symbol(rt.alloc(), name, &parse, &DemangleOptions::default());
-        assert_eq!(rt; answer.err(), fault, "at {name:?} with {limit}");
-    }
-    let parse = ParseOptions::default();
-    let print = DemangleOptions::default();
-    let too_deep = Some(SymbolFault::Print(DemangleError::TooMuchRecursion));
-    for (limit, fault) in [(3, too_deep), (4, None)] {
-        let answer = demangle_symbol(rt.alloc(), b"i", &parse, &print.recursion_limit(limit));
-        assert_eq!(rt; answer.err(), fault, "with {limit}");
-    }
-    let too_long = Some(SymbolFault::Print(DemangleError::TooLong));
-    for (bytes, fault) in [(2, too_long), (3, None)] {
-        let answer = demangle_symbol(rt.alloc(), b"_Z1fv", &parse, &print.output_limit(bytes));
-        assert_eq!(rt; answer.err(), fault, "with {bytes}");
+    for (name, read_levels, print_levels, bytes, want) in LIMITED {
+        let parse = ParseOptions::default().recursion_limit(read_levels.max(1));
+        let print = DemangleOptions::new()
+            .recursion_limit(print_levels.max(1))
+            .output_limit(bytes);
+        let answer = demangle_symbol(rt.alloc(), name, &parse, &print);
+        assert_eq!(rt;
+            answer
+                .as_ref()
+                .map(|text| text.as_str())
+                .map_err(|fault| *fault),
+            want,
+            "at {name:?} with {read_levels}, {print_levels}, {bytes}"
+        );
     }
 }
 
 #[test]
 fn faults_are_shown_as_they_say(rt: HostRuntime) -> Result<(), Fail> {
     for fault in [
+        SymbolFault::Read(Error::UnexpectedEnd),
         SymbolFault::Read(Error::UnexpectedText),
-        SymbolFault::Print(DemangleError::NotUtf8),
+        SymbolFault::Read(Error::Overflow),
+        TOO_DEEP_TO_READ,
         SymbolFault::Print(DemangleError::Reference(Error::BadLeafNameReference)),
+        SymbolFault::Print(DemangleError::Reference(Error::BadTemplateArgReference)),
+        FORWARD,
+        TOO_DEEP_TO_PRINT,
+        SymbolFault::Print(DemangleError::NotUtf8),
+        TOO_LONG,
         SymbolFault::OutOfMemory,
     ] {
         let shown = format!(in rt.alloc(); "{fault}")?;

@@ -58,6 +58,7 @@ fn symbols_are_read_and_printed(rt: HostRuntime) -> Result<(), Fail> {
         TEXT
     );
     assert!(rt; owned.parsed() == symbol.parsed());
+    assert!(rt; symbol.substitutions().lengths() == (1, 1));
     assert!(rt; owned.try_clone(rt.alloc())? == owned);
     assert!(rt; symbol.try_clone(rt.alloc())? == symbol);
     let other = BorrowedSymbol::new(rt.alloc(), b"_ZN5space3fooEii".as_slice())?;

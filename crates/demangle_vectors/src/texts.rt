@@ -29,7 +29,7 @@ const BUILTINS: [(&[u8], &str); 21] = [
 ];
 
 /// Names of all kinds.
-const TEXTS: [(&[u8], &str); 48] = [
+const TEXTS: [(&[u8], &str); 55] = [
     (b"_ZN5space3fooEibc", "space::foo(int, bool, char)"),
     (b"_ZN5space3fooEii", "space::foo(int, int)"),
     (
@@ -40,6 +40,8 @@ const TEXTS: [(&[u8], &str); 48] = [
     ),
     (b"_Z1fP1aS_", "f(a*, a)"),
     (b"_Z1fP1aS0_", "f(a*, a*)"),
+    (b"_Z1fP1a1a", "f(a*, a)"),
+    (b"_Z1fP1aP1a", "f(a*, a*)"),
     (
         b"_ZNSt6vectorIiSaIiEE9push_backERKi",
         "std::vector<int, std::allocator<int> >::push_back(int const&)",
@@ -61,6 +63,14 @@ const TEXTS: [(&[u8], &str); 48] = [
     (b"_ZN3fooME", "foo"),
     (b"_Z1f", "f"),
     (b"i", "int"),
+    (b"Pi", "int*"),
+    (b"_ZN1a1bEv", "a::b()"),
+    (b"_ZN2n0Ei", "n0(int)"),
+    (b"_ZN2n12n1EPKcRKd", "n1::n1(char const*, double const&)"),
+    (
+        b"_ZN2n22n22n2ERKdPFivEi",
+        "n2::n2::n2(double const&, int (*)(), int)",
+    ),
     (b"_Z1fILin5EEvv", "void f<-5>()"),
     (b"_Z1fILm5EEvv", "void f<(unsigned long)5>()"),
     (b"_ZN3FooC1IiEEi", "Foo::Foo<int>()"),

@@ -1,7 +1,7 @@
 //! Words of the command line, inputs, and what is written for them.
 
 /// Words with a blank between two, an input, and what is written for them.
-pub(crate) const RUNS: [(&str, &[u8], &[u8]); 44] = [
+pub(crate) const RUNS: [(&str, &[u8], &[u8]); 58] = [
     ("", b"foo\n_Z1fv\r\n_Z", b"foo\nf()\r\n_Z"),
     (
         "--why",
@@ -38,26 +38,55 @@ pub(crate) const RUNS: [(&str, &[u8], &[u8]); 44] = [
         b"_Z1gv\n_Z1fT_\n_Z1fIT_Evv\n_Z1hv",
         b"g()\n_Z1fT_\n_Z1fIT_Evv\nh()",
     ),
+    ("", b"_Z3fooib\nhello\n", b"foo(int, bool)\nhello\n"),
+    ("", b"_Z1fvv\n_Z3foo\n", b"f(void, void)\nfoo\n"),
     ("_Z1fv foo", b"_Z1gv\n", b"f()\nfoo\n"),
     ("-p _Z1fIiEvT_", b"", b"void f<int>\n"),
     ("_Z1fIiEvT_ -r", b"", b"f<int>(int)\n"),
     ("-pr _Z1fIiEvT_", b"", b"f<int>\n"),
+    ("--no-params --no-return-type", b"_Z1fIiEvT_\n", b"f<int>\n"),
     ("-l _Z1fILm5EEvv", b"", b"void f<5>()\n"),
     ("_Z1fILm5EEvv", b"", b"void f<(unsigned long)5>()\n"),
+    (
+        "--hide-literal-types --types",
+        b"_Z1fILm5EEvv\ni",
+        b"void f<5>()\nint",
+    ),
     ("-w foo _Z", b"", b"foo\n_Z\tmangled symbol ends abruptly\n"),
+    (
+        "-tw i QQ",
+        b"",
+        b"int\nQQ\tmangled symbol is not well-formed\n",
+    ),
     (
         "-w _ZC1v",
         b"",
         b"_ZC1v\treference to a leaf name in a context where there is no current leaf name\n",
     ),
+    (
+        "-w",
+        b"_ZTC1a99999999999999999999_1b\n_Z1fT_\n",
+        b"_ZTC1a99999999999999999999_1b\tan overflow or underflow would occur when parsing an integer in a mangled \
+          symbol\n_Z1fT_\treference to a template arg that is either out-of-bounds, or in a context without template \
+          args\n",
+    ),
+    (
+        "-w",
+        b"_Z1fIT_Evv\n_Z1fILi\xffEEvv\n",
+        b"_Z1fIT_Evv\treference to a template arg from itself or a later template arg\n_Z1fILi\xffEEvv\tliteral is \
+          not valid UTF-8\n",
+    ),
     ("-- -x --why", b"", b"-x\n--why\n"),
+    ("-p -- -r _Z1fIiEvT_", b"", b"-r\nvoid f<int>\n"),
     ("-", b"_Z1fv\n", b"-\n"),
+    ("--", b"_Z1fv\n", b"f()\n"),
     (
         "--max-output 2 --why _Z1fv",
         b"",
         b"_Z1fv\ttext is longer than the limit\n",
     ),
     ("--max-output=3 _Z1fv", b"", b"f()\n"),
+    ("--max-output 1073741824 _Z1fv", b"", b"f()\n"),
     (
         "--parse-limit 4 -tw",
         b"i",
@@ -71,9 +100,25 @@ pub(crate) const RUNS: [(&str, &[u8], &[u8]); 44] = [
     ),
     ("--print-limit=4 -tw", b"i", b"int"),
     (
+        "--print-limit 1 --why _Z1fv",
+        b"",
+        b"_Z1fv\tencountered too much recursion when printing symbol\n",
+    ),
+    (
         "--print-limit 1024 --parse-limit 1024",
         b"_Z1fv\n",
         b"f()\n",
+    ),
+    (
+        "-tw",
+        b"PPPPPPPPPPPPPPPPPPPPPPPPPPPPPPPPPPPPPPPPPPPPPPPPPPPPPPPPPPPPPPPPPPPPPPPPPPPPPPPPPPPPPPPi\n",
+        b"int***************************************************************************************\n",
+    ),
+    (
+        "-tw",
+        b"PPPPPPPPPPPPPPPPPPPPPPPPPPPPPPPPPPPPPPPPPPPPPPPPPPPPPPPPPPPPPPPPPPPPPPPPPPPPPPPPPPPPPPPPi\n",
+        b"PPPPPPPPPPPPPPPPPPPPPPPPPPPPPPPPPPPPPPPPPPPPPPPPPPPPPPPPPPPPPPPPPPPPPPPPPPPPPPPPPPPPPPPPi\t\
+          encountered too much recursion when demangling symbol\n",
     ),
     ("--sample 1", b"_Z1fv\n", b"names 1 read 1 bytes 7\n"),
     ("--sample 2", b"", b"names 2 read 2 bytes 41\n"),
@@ -94,10 +139,15 @@ pub(crate) const RUNS: [(&str, &[u8], &[u8]); 44] = [
         b"",
         b"names 1000 read 0 bytes 0\n",
     ),
+    (
+        "--sample 100000 --parse-limit 1",
+        b"",
+        b"names 100000 read 0 bytes 0\n",
+    ),
 ];
 
 /// Words that are wrong, and what is told of them first.
-pub(crate) const MISTAKES: [(&str, &str); 15] = [
+pub(crate) const MISTAKES: [(&str, &str); 22] = [
     ("--bogus", "error: unexpected argument '--bogus' found\n"),
     ("-x", "error: unexpected argument '-x' found\n"),
     (
@@ -151,6 +201,34 @@ pub(crate) const MISTAKES: [(&str, &str); 15] = [
     (
         "--sample 99999999999999999999",
         "error: invalid value '99999999999999999999' for '--sample <N>': not a number from 1 to 100000\n",
+    ),
+    (
+        "--print-limit 0",
+        "error: invalid value '0' for '--print-limit <N>': not a number from 1 to 1024\n",
+    ),
+    (
+        "--print-limit 1025",
+        "error: invalid value '1025' for '--print-limit <N>': not a number from 1 to 1024\n",
+    ),
+    (
+        "--max-output 0",
+        "error: invalid value '0' for '--max-output <N>': not a number from 1 to 1073741824\n",
+    ),
+    (
+        "--sample 0",
+        "error: invalid value '0' for '--sample <N>': not a number from 1 to 100000\n",
+    ),
+    (
+        "--sample=-5",
+        "error: invalid value '-5' for '--sample <N>': not a number from 1 to 100000\n",
+    ),
+    (
+        "--parse-limit 5 --parse-limit=6",
+        "error: the argument '--parse-limit <N>' cannot be used multiple times\n",
+    ),
+    (
+        "_Z1fv --bogus foo",
+        "error: unexpected argument '--bogus' found\n",
     ),
 ];
 
