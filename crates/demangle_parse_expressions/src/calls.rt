@@ -37,10 +37,10 @@ pub fn calls<'b, B: Below>(
         (here (spot input.entry) (table_of subs.old)))) }
 {
     match word {
-        CallWord::Call => { call(below, alloc, depth, subs, input) }
-        CallWord::Conversion => { conversion(below, alloc, depth, subs, input) }
-        CallWord::Braces => { braces(below, alloc, depth, subs, input) }
-        CallWord::List => { list(below, alloc, depth, subs, input) }
+        CallWord::Call => call(below, alloc, depth, subs, input),
+        CallWord::Conversion => conversion(below, alloc, depth, subs, input),
+        CallWord::Braces => braces(below, alloc, depth, subs, input),
+        CallWord::List => list(below, alloc, depth, subs, input),
     }
 }
 

@@ -119,10 +119,10 @@ fn worded<'b, B: Below>(
         ExpressionWord::OfExpression(word) => {
             of_expression(below, alloc, depth, subs, word, input)
         }
-        ExpressionWord::OfType(word) => { of_type(below, alloc, depth, subs, word, input) }
-        ExpressionWord::Cast(word) => { cast(below, alloc, depth, subs, word, input) }
-        ExpressionWord::Call(word) => { calls(below, alloc, depth, subs, word, input) }
-        ExpressionWord::Member(word) => { members(below, alloc, depth, subs, word, input) }
+        ExpressionWord::OfType(word) => of_type(below, alloc, depth, subs, word, input),
+        ExpressionWord::Cast(word) => cast(below, alloc, depth, subs, word, input),
+        ExpressionWord::Call(word) => calls(below, alloc, depth, subs, word, input),
+        ExpressionWord::Member(word) => members(below, alloc, depth, subs, word, input),
     }
 }
 

@@ -45,11 +45,11 @@ pub fn members<'b, B: Below>(
         (here (spot input.entry) (table_of subs.old)))) }
 {
     match word {
-        MemberWord::Subobject => { subobject(below, alloc, depth, subs, input) }
-        MemberWord::Access(word) => { access(below, alloc, depth, subs, word, input) }
-        MemberWord::PointerToMember => { pointer_to_member(below, alloc, depth, subs, input) }
-        MemberWord::SizeofPack => { sizeof_pack(depth, input) }
-        MemberWord::SizeofCapturedPack => { sizeof_captured_pack(below, alloc, depth, subs, input) }
+        MemberWord::Subobject => subobject(below, alloc, depth, subs, input),
+        MemberWord::Access(word) => access(below, alloc, depth, subs, word, input),
+        MemberWord::PointerToMember => pointer_to_member(below, alloc, depth, subs, input),
+        MemberWord::SizeofPack => sizeof_pack(depth, input),
+        MemberWord::SizeofCapturedPack => sizeof_captured_pack(below, alloc, depth, subs, input),
         MemberWord::Rethrow => Ok((Expression::Rethrow, input)),
     }
 }

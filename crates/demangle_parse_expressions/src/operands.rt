@@ -64,9 +64,9 @@ fn operands<'b, B: Below>(
         (here (spot input.entry) (table_of subs.old)))) }
 {
     match operand_count(operator) {
-        1 => { unary(below, alloc, depth, subs, operator, input) }
-        2 => { binary(below, alloc, depth, subs, operator, input) }
-        3 => { ternary(below, alloc, depth, subs, operator, input) }
+        1 => unary(below, alloc, depth, subs, operator, input),
+        2 => binary(below, alloc, depth, subs, operator, input),
+        3 => ternary(below, alloc, depth, subs, operator, input),
         _ => Err(Error::UnexpectedText),
     }
 }
