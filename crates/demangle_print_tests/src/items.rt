@@ -140,14 +140,13 @@ fn done<'a>(
 }
 
 /// How many items wait behind a call, and the level. The items that waited have a level each.
-fn left_behind(
+fn left_behind<'a>(
     alloc: Global,
-    call: Call,
-    waiting: &[Item],
-    subs: &SubstitutionTable,
+    (call, waiting): (Call, &[Item]),
+    subs: &'a SubstitutionTable,
+    types: &'a [TypeHandle; 1],
     sink: &mut TextSink,
 ) -> Result<(usize, u32), DemangleError> {
-    let types = [int()];
     let mut ctx = DemangleContext::new(alloc, subs, b"", DemangleOptions::new(), sink)?;
     for item in waiting {
         if let Some(item) = inner_item(subs, *item) {
@@ -155,16 +154,17 @@ fn left_behind(
         }
         ctx.enter()?;
     }
-    done(call, subs, &types, &mut ctx)?;
+    done(call, subs, types, &mut ctx)?;
     Ok((ctx.inner_len(), ctx.recursion_level()))
 }
 
 /// The number of the first case that comes out otherwise.
 fn first_other(alloc: Global, subs: &SubstitutionTable, cases: &[Case]) -> Option<usize> {
+    let types = [int()];
     for (i, (call, waiting, text, left)) in cases.iter().enumerate() {
         let mut sink = TextSink::new(alloc);
         let level = waiting.len() as u32;
-        if left_behind(alloc, *call, *waiting, subs, &mut sink) != Ok((*left, level))
+        if left_behind(alloc, (*call, *waiting), subs, &types, &mut sink) != Ok((*left, level))
             || sink.as_str() != *text
         {
             return Some(i);

@@ -1,7 +1,7 @@
 //! Long lists, long chains of references, which take no stack, and a name whose text would never end.
 
 use crate::listener::Listener;
-use crate::printed::{int, is_printed, print, print_name, read_type};
+use crate::printed::{int, is_printed, print_name, read_type, tell_type};
 use demangle_print::{Demangle, demangle_args};
 use demangle_release::release_table;
 use demangle_scope::{
@@ -70,29 +70,30 @@ fn chain_bytes(alloc: Global) -> Result<Vec<u8>, AllocError> {
 }
 
 /// What printing a constructor answers that is inherited from the chain's end, in a class of another name.
-fn inherited(
+fn inherited<'a>(
     alloc: Global,
-    end: TypeHandle,
-    subs: &SubstitutionTable,
-    input: &[u8],
+    constructor: &'a CtorDtorName,
+    own: &'a SourceName,
+    subs: &'a SubstitutionTable,
+    input: &'a [u8],
     sink: &mut TextSink,
 ) -> Result<(), DemangleError> {
-    let own = SourceName(Identifier { start: 0, end: 1 });
-    let constructor = CtorDtorName::CompleteConstructor(Some(end));
     let nothing = None;
-    let scope = scope_push(&nothing, ScopeItem::SourceName(&own));
+    let scope = scope_push(&nothing, ScopeItem::SourceName(own));
     let mut ctx = DemangleContext::new(alloc, subs, input, DemangleOptions::new(), sink)?;
     constructor.demangle(&mut ctx, scope)
 }
 
 fn is_leaf_found(alloc: Global, end: TypeHandle, subs: &SubstitutionTable, input: &[u8]) -> bool {
+    let own = SourceName(Identifier { start: 0, end: 1 });
+    let constructor = CtorDtorName::CompleteConstructor(Some(end));
     let mut sink = TextSink::new(alloc);
-    inherited(alloc, end, subs, input, &mut sink) == Ok(()) && sink.as_str() == "a"
+    inherited(alloc, &constructor, &own, subs, input, &mut sink) == Ok(()) && sink.as_str() == "a"
 }
 
 fn is_stopped(alloc: Global, end: TypeHandle, subs: &SubstitutionTable, input: &[u8]) -> bool {
     let mut sink = TextSink::new(alloc);
-    let answer = print(alloc, &end, subs, input, DemangleOptions::new(), &mut sink);
+    let answer = tell_type(alloc, &end, subs, input, &mut sink);
     answer == Some(Err(DemangleError::TooMuchRecursion)) && sink.as_str().is_empty()
 }
 

@@ -129,27 +129,27 @@ fn has_table(call: Call) -> bool {
 }
 
 /// What a call answers in a new context, with no scope.
-fn answer(
+fn answer<'a>(
     alloc: Global,
-    call: Call,
-    bytes: &[u8],
-    nodes: &SubstitutionTable,
-    empty: &SubstitutionTable,
+    (call, bytes): (Call, &'a [u8]),
+    nodes: &'a SubstitutionTable,
+    empty: &'a SubstitutionTable,
+    leaves: &'a Leaves,
     sink: &mut TextSink,
 ) -> Option<Result<(), DemangleError>> {
-    let leaves = sample_leaves();
     let subs = if has_table(call) { nodes } else { empty };
     let mut ctx = DemangleContext::new(alloc, subs, bytes, DemangleOptions::new(), sink).ok()?;
     turn_on(call, &mut ctx);
-    done(call, nodes, &leaves, &mut ctx)
+    done(call, nodes, leaves, &mut ctx)
 }
 
 fn is_answer(alloc: Global, case: Case) -> Option<bool> {
     let (call, bytes, wanted) = case;
     let (_type, nodes) = read_type(alloc, bytes)?;
     let empty = SubstitutionTable::new(alloc);
+    let leaves = sample_leaves();
     let mut sink = TextSink::new(alloc);
-    let answer = answer(alloc, call, bytes, &nodes, &empty, &mut sink);
+    let answer = answer(alloc, (call, bytes), &nodes, &empty, &leaves, &mut sink);
     release_table(nodes);
     release_table(empty);
     Some(match wanted {

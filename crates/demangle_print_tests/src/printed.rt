@@ -47,10 +47,10 @@ pub fn int() -> TypeHandle {
     TypeHandle::Builtin(BuiltinType::Standard(StandardBuiltinType::Int))
 }
 
-/// What printing a node answers, with no scope and no inner item; `None` where the level isn't as before.
-pub fn print<'a, X: Demangle<'a, W>, W: 'a + DemangleWrite>(
+/// What printing a name's tree answers; `None` where the level isn't as before.
+fn tell_name<'a, W: 'a + DemangleWrite>(
     alloc: Global,
-    node: &'a X,
+    name: &'a MangledName,
     subs: &'a SubstitutionTable,
     input: &'a [u8],
     options: DemangleOptions,
@@ -58,7 +58,26 @@ pub fn print<'a, X: Demangle<'a, W>, W: 'a + DemangleWrite>(
 ) -> Option<Result<(), DemangleError>> {
     match DemangleContext::new(alloc, subs, input, options, out) {
         Ok(mut ctx) => {
-            let answer = node.demangle(&mut ctx, None);
+            let answer = name.demangle(&mut ctx, None);
+            let level = ctx.recursion_level();
+            let _out = ctx.end();
+            if level == 0 { Some(answer) } else { None }
+        }
+        Err(error) => Some(Err(error)),
+    }
+}
+
+/// What printing a type answers; `None` where the level isn't as before.
+pub fn tell_type<'a>(
+    alloc: Global,
+    handle: &'a TypeHandle,
+    subs: &'a SubstitutionTable,
+    input: &'a [u8],
+    out: &mut TextSink,
+) -> Option<Result<(), DemangleError>> {
+    match DemangleContext::new(alloc, subs, input, DemangleOptions::new(), out) {
+        Ok(mut ctx) => {
+            let answer = handle.demangle(&mut ctx, None);
             let level = ctx.recursion_level();
             let _out = ctx.end();
             if level == 0 { Some(answer) } else { None }
@@ -78,7 +97,7 @@ pub fn print_name<W: DemangleWrite>(
     let mut subs = SubstitutionTable::new(alloc);
     match MangledName::parse(alloc, &mut ctx, &mut subs, IndexStr::new(name)) {
         Ok((node, rest)) => {
-            let answer = print(alloc, &node, &subs, name, options, out);
+            let answer = tell_name(alloc, &node, &subs, name, options, out);
             release(node, subs);
             if rest.is_empty() { answer } else { None }
         }
@@ -90,13 +109,13 @@ pub fn print_name<W: DemangleWrite>(
 }
 
 /// What printing a type answers; `None` where it isn't read.
-pub fn print_type<W: DemangleWrite>(
+pub fn print_type(
     alloc: Global,
     bytes: &[u8],
-    out: &mut W,
+    out: &mut TextSink,
 ) -> Option<Result<(), DemangleError>> {
     let (handle, subs) = read_type(alloc, bytes)?;
-    let answer = print(alloc, &handle, &subs, bytes, DemangleOptions::new(), out);
+    let answer = tell_type(alloc, &handle, &subs, bytes, out);
     release_table(subs);
     answer
 }
