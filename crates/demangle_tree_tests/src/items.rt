@@ -1,53 +1,107 @@
 //! Inner items: what node each borrows.
 
-use crate::worked::int;
+use crate::reading::table_of;
+use demangle_entries::{ClassEnumType, LocalName, Name, TypeHandle, TypeNode};
+use demangle_release::release_table;
 use demangle_scope::InnerItem;
-use demangle_tree::{CvQualifiers, PointerToMemberType, TypeNode};
+use std::alloc::Global;
 
-// Whether the test holds of the value, which is dropped here.
-fn holds<A: Drop, T: Fn(&A) -> bool>(value: A, test: T) -> bool
-    requires { T.IsAlwaysCallable test }
-{
-    test(&value)
+/// Whether an item is a type, a function's type, an array, a pointer to a member, and qualified.
+type Kinds = [bool; 5];
+
+/// A type whose first components are of all kinds.
+const TYPES: &[u8] = b"FvPiKiA3_iMiiDv4_iKFivEFYivEZ1fvE1aE";
+
+/// A component, the kinds of it, and those of what it holds.
+const CASES: [(usize, Kinds, Kinds); 8] = [
+    (
+        0,
+        [true, false, false, false, false],
+        [true, false, false, false, false],
+    ),
+    (
+        1,
+        [true, false, false, false, true],
+        [false, false, false, false, false],
+    ),
+    (
+        2,
+        [true, false, true, false, false],
+        [false, false, true, false, false],
+    ),
+    (
+        3,
+        [true, false, false, true, false],
+        [false, false, false, true, false],
+    ),
+    (
+        4,
+        [true, false, false, false, false],
+        [false, false, false, false, false],
+    ),
+    (
+        5,
+        [true, true, false, false, false],
+        [false, true, false, false, false],
+    ),
+    (
+        6,
+        [true, true, false, false, false],
+        [false, false, false, false, false],
+    ),
+    (
+        7,
+        [true, false, false, false, false],
+        [false, false, false, false, false],
+    ),
+];
+
+fn kinds(item: InnerItem<'_>) -> Kinds {
+    [
+        item.downcast_to_type().is_some(),
+        item.downcast_to_function_type().is_some(),
+        item.downcast_to_array_type().is_some(),
+        item.downcast_to_pointer_to_member().is_some(),
+        item.is_qualified(),
+    ]
 }
 
-fn is_plain_type(node: &TypeNode) -> bool {
-    let item = InnerItem::Node(node);
-    item.downcast_to_type().is_some()
-        && item.downcast_to_function_type().is_none()
-        && item.downcast_to_array_type().is_none()
-        && item.downcast_to_pointer_to_member().is_none()
+/// What the type holds: of a function of C its parameters, of a local class the function that it is in; itself where it
+/// holds no node that may be an item.
+fn inside(node: &TypeNode) -> InnerItem<'_> {
+    match node {
+        TypeNode::Function(function) if function.extern_c => InnerItem::Bare(&function.bare),
+        TypeNode::Function(function) => InnerItem::Function(function),
+        TypeNode::Array(array) => InnerItem::Array(array),
+        TypeNode::Vector(vector) => InnerItem::Vector(vector),
+        TypeNode::PointerToMember(member) => InnerItem::Member(member),
+        TypeNode::Qualified(qualifiers, _) => InnerItem::Qualifiers(qualifiers),
+        TypeNode::ClassEnum(ClassEnumType::Named(name)) => match &**name {
+            Name::Local(LocalName::Relative(encoding, _, _)) => InnerItem::Encoding(encoding),
+            _ => InnerItem::Node(node),
+        },
+        _ => InnerItem::Node(node),
+    }
 }
 
-fn is_qualified(node: &TypeNode) -> bool {
-    InnerItem::Node(node).is_qualified()
-}
-
-fn is_member_in_type(node: &TypeNode) -> bool {
-    InnerItem::Node(node)
-        .downcast_to_pointer_to_member()
-        .is_some()
+/// The number of a case that comes out otherwise.
+fn wrong(alloc: Global) -> Option<Option<usize>> {
+    let subs = table_of(alloc, TYPES)?;
+    let mut wrong = None;
+    for (i, (idx, own, held)) in CASES.iter().enumerate() {
+        let found = match subs.get_type(&TypeHandle::BackReference(*idx)) {
+            Some(node) => Some((kinds(InnerItem::Node(node)), kinds(inside(node)))),
+            None => None,
+        };
+        if found != Some((*own, *held)) {
+            wrong = Some(i);
+        }
+    }
+    release_table(subs);
+    Some(wrong)
 }
 
 #[test]
-fn a_type_answers_for_what_it_holds(rt: HostRuntime) {
-    let member = PointerToMemberType(int(), int());
-    assert!(rt; holds(TypeNode::PointerTo(int()), is_plain_type));
-    assert!(rt; !holds(TypeNode::PointerTo(int()), is_qualified));
-    assert!(rt;
-        holds(
-            TypeNode::Qualified(CvQualifiers::default(), int()),
-            is_qualified
-        )
-    );
-    assert!(rt; holds(TypeNode::PointerToMember(member), is_member_in_type));
-}
-
-#[test]
-fn another_item_answers_for_itself(rt: HostRuntime) {
-    let member = PointerToMemberType(int(), int());
-    let item = InnerItem::Member(&member);
-    assert!(rt; item.downcast_to_pointer_to_member().is_some());
-    assert!(rt; item.downcast_to_type().is_none());
-    assert!(rt; !InnerItem::Qualifiers(&CvQualifiers::default()).is_qualified());
+fn an_item_answers_for_its_node(rt: HostRuntime) {
+    assert_eq!(rt; wrong(rt.alloc()), Some(None));
 }

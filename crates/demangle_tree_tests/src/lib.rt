@@ -3,20 +3,18 @@
 #![tactic(auto)]
 
 #[cfg(test)]
-mod copies;
-#[cfg(test)]
-mod equality;
+mod components;
 #[cfg(test)]
 mod items;
 #[cfg(test)]
 mod lookups;
 #[cfg(test)]
-mod nodes;
+mod reading;
+#[cfg(test)]
+mod rows;
 #[cfg(test)]
 mod scopes;
 #[cfg(test)]
-mod table;
-#[cfg(test)]
-mod texts;
+mod wholes;
 #[cfg(test)]
 mod worked;

@@ -1,217 +1,297 @@
 //! The look-ups through the table.
 
-use crate::nodes::{both, boxed, function};
-use crate::worked::{
-    class_name, constructor, conversion_to_int, destructor, int, is_class, operator_new, place,
-    position, table_of_class, template_of_class,
+use crate::reading::{component, table_of};
+use crate::rows::is_shown;
+use demangle_entries::{
+    ClassEnumType, LeafName, Name, NestedName, NonSubstitution, PrefixHandle, Substitutable,
+    TemplateTemplateParamHandle, TypeHandle, TypeNode, UnresolvedTypeHandle,
+    UnscopedTemplateNameHandle,
 };
-use demangle_text::Result;
-use demangle_tree::{
-    CvQualifiers, GetLeafName, GetTemplateArgs, Identifier, IsCtorDtorConversion, LeafName,
-    LocalName, Name, NestedName, NonSubstitution, Prefix, PrefixHandle, SourceName, Substitutable,
-    SubstitutionTable, TemplateArgs, TemplateTemplateParamHandle, TypeHandle, TypeNode,
-    UnqualifiedName, UnresolvedTypeHandle, UnscopedName, UnscopedTemplateNameHandle,
-};
-use demangle_vocab::{RefQualifier, WellKnownComponent};
-use std::alloc::Global;
+use demangle_release::release_table;
+use demangle_table::SubstitutionTable;
+use demangle_tree::{GetLeafName, GetTemplateArgs, IsCtorDtorConversion};
+use demangle_vocab::WellKnownComponent;
+use std::alloc::{AllocError, Global};
 
-// A class, and a template of it in the second list.
-fn class_and_template(alloc: Global) -> Option<SubstitutionTable> {
-    let mut subs = table_of_class(alloc)?;
-    position(subs.insert_non_substitution(template_of_class(alloc)))?;
-    Some(subs)
+/// What is looked at: a handle, a component, the type in it, or the name of the class that the last component is, and
+/// what that name holds.
+#[derive(Clone, Copy)]
+pub enum Of {
+    Prefix(PrefixHandle),
+    Type(TypeHandle),
+    Unscoped(UnscopedTemplateNameHandle),
+    Template(TemplateTemplateParamHandle),
+    Unresolved(UnresolvedTypeHandle),
+    Component(usize),
+    Node(usize),
+    Name,
+    Held,
+    Unqualified,
 }
 
-fn member(prefix: PrefixHandle, name: UnqualifiedName) -> NestedName {
-    NestedName::Unqualified(
-        CvQualifiers::default(),
-        Some(RefQualifier::LValueRef),
-        Some(prefix),
-        name,
-    )
-}
+/// The leaf name as `{:?}` shows it, the place of the template arguments, and whether it is a constructor, a destructor
+/// or a conversion; as little as can be for what has no such look-up.
+pub type Found = (&'static str, Option<usize>, bool);
 
-// The look-ups through the bounds of their traits.
-fn leaf<'a, T: GetLeafName<'a>>(node: &'a T, subs: &'a SubstitutionTable) -> Option<LeafName<'a>> {
-    node.get_leaf_name(subs)
-}
+/// The leaf names by where their identifiers stand.
+const AT_1: &str = "Some(SourceName(SourceName(Identifier { start: 1, end: 2 })))";
 
-fn place_of<T: GetTemplateArgs>(node: &T, subs: &SubstitutionTable) -> Option<usize> {
-    place(node.get_template_args(subs))
-}
+const AT_2: &str = "Some(SourceName(SourceName(Identifier { start: 2, end: 3 })))";
 
-fn is_special<T: IsCtorDtorConversion>(node: &T, subs: &SubstitutionTable) -> bool {
-    node.is_ctor_dtor_conversion(subs)
-}
+const AT_4: &str = "Some(SourceName(SourceName(Identifier { start: 4, end: 5 })))";
 
-// Whether a handle has the class as its leaf name, or no leaf name where it should have none, and is neither a template
-// nor a constructor.
-fn is_plain(handle: PrefixHandle, subs: &SubstitutionTable, has_leaf: bool) -> bool {
-    let found = leaf(&handle, subs);
-    found.is_some() == has_leaf
-        && is_class(found) == has_leaf
-        && place_of(&handle, subs).is_none()
-        && !is_special(&handle, subs)
-}
+const AT_6: &str = "Some(SourceName(SourceName(Identifier { start: 6, end: 7 })))";
 
-#[test]
-fn handles_with_and_without_a_leaf_name(rt: HostRuntime) {
-    let subs = table_of_class(rt.alloc()).expect(&rt, "memory");
-    let handles = [
-        ("the class", PrefixHandle::BackReference(0), true),
+const AT_8: &str = "Some(SourceName(SourceName(Identifier { start: 8, end: 9 })))";
+
+/// No leaf name.
+pub const NOTHING: &str = "None";
+
+/// A type, what is looked at, and what is found.
+type Case = (&'static [u8], Of, Found);
+
+/// Handles to a class, to a template, to a list of arguments, to no component and to known ones.
+const HANDLES: [Case; 14] = [
+    (
+        b"N1a1bE",
+        Of::Prefix(PrefixHandle::BackReference(0)),
+        (AT_2, None, false),
+    ),
+    (
+        b"N1a1bE",
+        Of::Prefix(PrefixHandle::BackReference(2)),
+        (NOTHING, None, false),
+    ),
+    (
+        b"N1a1bE",
+        Of::Prefix(PrefixHandle::WellKnown(WellKnownComponent::Std)),
+        (NOTHING, None, false),
+    ),
+    (
+        b"N1a1bE",
+        Of::Prefix(PrefixHandle::WellKnown(WellKnownComponent::StdAllocator)),
+        ("Some(WellKnownComponent(StdAllocator))", None, false),
+    ),
+    (
+        b"N1a1bE",
+        Of::Type(TypeHandle::BackReference(0)),
+        (AT_2, None, false),
+    ),
+    (
+        b"N1a1bE",
+        Of::Unscoped(UnscopedTemplateNameHandle::BackReference(0)),
+        (AT_2, None, false),
+    ),
+    (
+        b"N1a1bE",
+        Of::Template(TemplateTemplateParamHandle::BackReference(0)),
+        (AT_2, None, false),
+    ),
+    (
+        b"N1a1bE",
+        Of::Unresolved(UnresolvedTypeHandle::BackReference(0)),
+        (AT_2, None, false),
+    ),
+    (
+        b"N1a1bIiEE",
+        Of::Prefix(PrefixHandle::NonSubstitution(NonSubstitution(0))),
+        (AT_4, Some(5), false),
+    ),
+    (
+        b"N1a1bIiEE",
+        Of::Prefix(PrefixHandle::NonSubstitution(NonSubstitution(1))),
+        (NOTHING, None, false),
+    ),
+    (
+        b"N1aC1E",
+        Of::Prefix(PrefixHandle::NonSubstitution(NonSubstitution(0))),
+        (AT_2, None, true),
+    ),
+    (
+        b"RU1aIiEi",
+        Of::Type(TypeHandle::BackReference(0)),
+        (NOTHING, Some(4), false),
+    ),
+    (
+        b"RU1aIiEi",
+        Of::Type(TypeHandle::BackReference(1)),
+        (NOTHING, Some(4), false),
+    ),
+    (b"RU1aIiEi", Of::Node(1), (NOTHING, Some(4), false)),
+];
+
+/// Names, what they hold, and components. A constructor alone has no leaf name, one in a class has the class's. A
+/// nested name is a constructor where its prefix is, as in the original.
+const NAMES: [Case; 17] = [
+    (b"1a", Of::Name, (AT_1, None, false)),
+    (b"1aIiE", Of::Name, (AT_1, Some(2), false)),
+    (b"N1a1bIiEE", Of::Name, (AT_4, Some(5), false)),
+    (b"N1a1bIiEE", Of::Held, (AT_4, Some(5), false)),
+    (b"NKR1aC1E", Of::Held, (AT_4, None, false)),
+    (b"N1aC1C1E", Of::Held, (AT_2, None, true)),
+    (b"NKR1aC1E", Of::Component(0), (AT_4, None, false)),
+    (b"NKR1aC1E", Of::Component(2), (AT_4, None, true)),
+    (b"NKR1aC1E", Of::Unqualified, (NOTHING, None, true)),
+    (b"N1aD1E", Of::Unqualified, (NOTHING, None, true)),
+    (b"N1acviE", Of::Unqualified, (NOTHING, None, true)),
+    (b"N1anwE", Of::Unqualified, (NOTHING, None, false)),
+    (b"N1a1bE", Of::Unqualified, (AT_4, None, false)),
+    (b"Z1fvESt1a", Of::Held, (AT_8, None, false)),
+    (b"Z1fvE1aIiE", Of::Held, (AT_6, Some(7), false)),
+    (
+        b"N1aUt0_E",
+        Of::Name,
+        ("Some(UnnamedType(UnnamedTypeName(Some(0))))", None, false),
+    ),
+    (
+        b"N1aUlvE_E",
+        Of::Name,
         (
-            "std",
-            PrefixHandle::WellKnown(WellKnownComponent::Std),
+            "Some(Closure(ClosureTypeName(LambdaSig([]), None)))",
+            None,
             false,
         ),
-        ("no component", PrefixHandle::BackReference(1), false),
-    ];
-    for (which, handle, has_leaf) in handles {
-        assert!(rt; is_plain(handle, &subs, has_leaf), "{which}");
+    ),
+];
+
+fn name_of(subs: &SubstitutionTable) -> Option<&Name> {
+    match subs.get(subs.len().checked_sub(1)?)? {
+        Substitutable::TypeNode(TypeNode::ClassEnum(ClassEnumType::Named(name))) => Some(name),
+        _ => None,
     }
 }
 
-#[test]
-fn each_handle_has_the_leaf_of_its_component(rt: HostRuntime) {
-    let subs = table_of_class(rt.alloc()).expect(&rt, "memory");
-    assert!(rt; is_class(TypeHandle::BackReference(0).get_leaf_name(&subs)));
-    assert!(rt; is_class(UnscopedTemplateNameHandle::BackReference(0).get_leaf_name(&subs)));
-    assert!(rt; is_class(TemplateTemplateParamHandle::BackReference(0).get_leaf_name(&subs)));
-    assert!(rt; is_class(UnresolvedTypeHandle::BackReference(0).get_leaf_name(&subs)));
+fn leaf_of<'a>(of: &'a Of, subs: &'a SubstitutionTable) -> Option<LeafName<'a>> {
+    match of {
+        Of::Prefix(handle) => handle.get_leaf_name(subs),
+        Of::Type(handle) => handle.get_leaf_name(subs),
+        Of::Unscoped(handle) => handle.get_leaf_name(subs),
+        Of::Template(handle) => handle.get_leaf_name(subs),
+        Of::Unresolved(handle) => handle.get_leaf_name(subs),
+        Of::Component(idx) => component(subs, *idx)?.get_leaf_name(subs),
+        Of::Node(idx) => subs
+            .get_type(&TypeHandle::BackReference(*idx))?
+            .get_leaf_name(subs),
+        Of::Name => name_of(subs)?.get_leaf_name(subs),
+        Of::Held => match name_of(subs)? {
+            Name::Nested(name) => name.get_leaf_name(subs),
+            Name::Local(name) => name.get_leaf_name(subs),
+            _ => None,
+        },
+        Of::Unqualified => match name_of(subs)? {
+            Name::Nested(NestedName::Unqualified(_, _, _, name)) => name.get_leaf_name(subs),
+            _ => None,
+        },
+    }
+}
+
+fn place_of(of: &Of, subs: &SubstitutionTable) -> Option<usize> {
+    let args = match of {
+        Of::Prefix(handle) => handle.get_template_args(subs),
+        Of::Type(handle) => handle.get_template_args(subs),
+        Of::Node(idx) => subs
+            .get_type(&TypeHandle::BackReference(*idx))?
+            .get_template_args(subs),
+        Of::Name => name_of(subs)?.get_template_args(subs),
+        Of::Held => match name_of(subs)? {
+            Name::Nested(name) => name.get_template_args(subs),
+            Name::Local(name) => name.get_template_args(subs),
+            _ => None,
+        },
+        _ => None,
+    };
+    Some(args?.1)
+}
+
+fn is_special(of: &Of, subs: &SubstitutionTable) -> Option<bool> {
+    Some(match of {
+        Of::Prefix(handle) => handle.is_ctor_dtor_conversion(subs),
+        Of::Component(idx) => component(subs, *idx)?.is_ctor_dtor_conversion(subs),
+        Of::Name => name_of(subs)?.is_ctor_dtor_conversion(subs),
+        Of::Held => match name_of(subs)? {
+            Name::Nested(name) => name.is_ctor_dtor_conversion(subs),
+            _ => false,
+        },
+        Of::Unqualified => match name_of(subs)? {
+            Name::Nested(NestedName::Unqualified(_, _, _, name)) => {
+                name.is_ctor_dtor_conversion(subs)
+            }
+            _ => false,
+        },
+        _ => false,
+    })
+}
+
+/// Whether the look-ups find this.
+pub fn is_found_in(alloc: Global, subs: &SubstitutionTable, of: Of, wanted: Found) -> bool {
+    let (leaf, place, special) = wanted;
+    is_shown(alloc, &leaf_of(&of, subs), leaf)
+        && place_of(&of, subs) == place
+        && is_special(&of, subs) == Some(special)
+}
+
+fn is_found(alloc: Global, bytes: &[u8], of: Of, wanted: Found) -> Option<bool> {
+    let subs = table_of(alloc, bytes)?;
+    let is_found = is_found_in(alloc, &subs, of, wanted);
+    release_table(subs);
+    Some(is_found)
 }
 
 #[test]
-fn another_known_component_is_its_own_leaf(rt: HostRuntime) {
-    let subs = table_of_class(rt.alloc()).expect(&rt, "memory");
-    let known = PrefixHandle::WellKnown(WellKnownComponent::StdAllocator);
-    assert!(rt;
-        matches!(
-            known.get_leaf_name(&subs),
-            Some(LeafName::WellKnownComponent(WellKnownComponent::StdAllocator))
-        )
-    );
+fn the_table_is_looked_through(rt: HostRuntime) {
+    for (i, (bytes, of, wanted)) in HANDLES.iter().chain(&NAMES).enumerate() {
+        assert_eq!(rt;
+            is_found(rt.alloc(), *bytes, *of, *wanted),
+            Some(true),
+            "case {i}"
+        );
+    }
 }
 
-#[test]
-fn a_template_has_its_arguments(rt: HostRuntime) {
-    let subs = class_and_template(rt.alloc()).expect(&rt, "memory");
-    let template = PrefixHandle::NonSubstitution(NonSubstitution(0));
-    assert!(rt; place(template.get_template_args(&subs)) == Some(7));
-}
-
-#[test]
-fn a_template_has_the_leaf_of_its_name(rt: HostRuntime) {
-    let subs = class_and_template(rt.alloc()).expect(&rt, "memory");
-    let template = PrefixHandle::NonSubstitution(NonSubstitution(0));
-    assert!(rt; is_class(template.get_leaf_name(&subs)));
-}
-
-#[test]
-fn constructors_destructors_and_conversions_are_told(rt: HostRuntime) {
-    let alloc = rt.alloc();
-    let subs = SubstitutionTable::new(alloc);
-    assert!(rt; constructor(alloc).is_ctor_dtor_conversion(&subs));
-    assert!(rt; destructor(alloc).is_ctor_dtor_conversion(&subs));
-    assert!(rt; conversion_to_int(alloc).is_ctor_dtor_conversion(&subs));
-    assert!(rt; !operator_new(alloc).is_ctor_dtor_conversion(&subs));
-    assert!(rt; !class_name(alloc).is_ctor_dtor_conversion(&subs));
-}
-
-#[test]
-fn a_constructor_has_no_leaf_of_its_own(rt: HostRuntime) {
-    let alloc = rt.alloc();
-    let subs = SubstitutionTable::new(alloc);
-    assert!(rt; constructor(alloc).get_leaf_name(&subs).is_none());
-    assert!(rt; is_class(class_name(alloc).get_leaf_name(&subs)));
-}
-
-#[test]
-fn a_constructor_in_a_class_has_its_leaf(rt: HostRuntime) {
-    let alloc = rt.alloc();
-    let subs = table_of_class(alloc).expect(&rt, "memory");
-    let name = member(PrefixHandle::BackReference(0), constructor(alloc));
-    assert!(rt; is_class(name.get_leaf_name(&subs)));
-    assert!(rt; name.get_template_args(&subs).is_none());
+/// Whether the nested name has an explicit object, qualifiers and a ref-qualifier.
+fn fields(alloc: Global, bytes: &[u8]) -> Option<(bool, bool, bool)> {
+    let subs = table_of(alloc, bytes)?;
+    let fields = match name_of(&subs) {
+        Some(Name::Nested(name)) => Some((
+            name.has_explicit_obj_param(),
+            name.cv_qualifiers().is_some(),
+            name.ref_qualifier().is_some(),
+        )),
+        _ => None,
+    };
+    release_table(subs);
+    fields
 }
 
 #[test]
 fn a_nested_name_gives_its_fields(rt: HostRuntime) {
     let alloc = rt.alloc();
-    let name = member(PrefixHandle::BackReference(0), constructor(alloc));
-    assert!(rt; !name.has_explicit_obj_param());
-    assert!(rt; name.cv_qualifiers().is_some());
-    assert!(rt; name.ref_qualifier().is_some());
+    assert_eq!(rt; fields(alloc, b"NKR1aC1E"), Some((false, true, true)));
+    assert_eq!(rt; fields(alloc, b"N1a1bIiEE"), Some((false, true, false)));
+    assert_eq!(rt; fields(alloc, b"NH1a1bE"), Some((true, false, false)));
 }
 
-// A name of the compiler's vendor with arguments of place 9, as component 0.
-fn table_of_vendor_type(alloc: Global) -> Option<SubstitutionTable> {
-    let mut subs = SubstitutionTable::new(alloc);
-    let vendor = TypeNode::VendorExtension(
-        SourceName(Identifier { start: 1, end: 2 }),
-        Some(TemplateArgs(Vec::new(alloc), 9)),
-        int(),
-    );
-    position(subs.insert(Substitutable::TypeNode(vendor)))?;
-    Some(subs)
-}
+/// How many links the long chain has.
+const MANY: usize = 100_000;
 
-#[test]
-fn a_type_has_the_arguments_of_its_component(rt: HostRuntime) {
-    let subs = table_of_vendor_type(rt.alloc()).expect(&rt, "memory");
-    let handle = TypeHandle::BackReference(0);
-    assert!(rt; place_of(&handle, &subs) == Some(9));
-    assert!(rt; place_of(&TypeNode::LvalueRef(handle), &subs) == Some(9));
-}
-
-#[test]
-fn a_name_has_what_its_part_has(rt: HostRuntime) {
-    let alloc = rt.alloc();
-    let subs = SubstitutionTable::new(alloc);
-    let name = Name::Unscoped(UnscopedName::Unqualified(class_name(alloc)));
-    assert!(rt; is_class(leaf(&name, &subs)));
-    assert!(rt; place_of(&name, &subs).is_none());
-    assert!(rt; !is_special(&name, &subs));
-}
-
-#[test]
-fn a_component_has_what_its_prefix_has(rt: HostRuntime) {
-    let alloc = rt.alloc();
-    let subs = table_of_class(alloc).expect(&rt, "memory");
-    let entry = link(alloc, 0);
-    assert!(rt; is_class(leaf(&entry, &subs)));
-    assert!(rt; is_special(&entry, &subs));
-}
-
-fn local(alloc: Global) -> Result<LocalName> {
-    let name = Name::Unscoped(UnscopedName::Std(class_name(alloc)));
-    both(boxed(alloc, function(alloc)), boxed(alloc, Ok(name))).map(|(
-        encoding,
-        name,
-    )| LocalName::Relative(encoding, Some(name), None))
-}
-
-#[test]
-fn a_local_name_has_the_leaf_of_its_entity(rt: HostRuntime) {
-    let alloc = rt.alloc();
-    let subs = SubstitutionTable::new(alloc);
-    let has_leaf = match local(alloc) {
-        Ok(name) => is_class(leaf(&name, &subs)),
-        Err(_) => false,
-    };
-    assert!(rt; has_leaf);
-}
-
-// A constructor with the prefix at `end`, which has no leaf name but that of the prefix.
-fn link(alloc: Global, end: usize) -> Substitutable {
-    Substitutable::Prefix(Prefix::Nested(PrefixHandle::BackReference(end), constructor(alloc)))
+/// A class, and so many constructors, each in what is before it; of the last one the type is.
+fn chain(alloc: Global) -> Result<Vec<u8>, AllocError> {
+    let mut bytes = Vec::new(alloc);
+    bytes.extend_from_slice(b"N1a")?;
+    for _ in 0..MANY {
+        bytes.extend_from_slice(b"C1")?;
+    }
+    bytes.extend_from_slice(b"C1E")?;
+    Ok(bytes)
 }
 
 #[test]
 fn a_long_chain_takes_no_stack(rt: HostRuntime) {
     let alloc = rt.alloc();
-    let mut subs = table_of_class(alloc).expect(&rt, "memory");
-    for end in 0..100_000 {
-        assert!(rt; position(subs.insert(link(alloc, end))).is_some());
-    }
-    assert!(rt; is_class(PrefixHandle::BackReference(100_000).get_leaf_name(&subs)));
+    let bytes = chain(alloc).expect(&rt, "memory");
+    let end = Of::Prefix(PrefixHandle::BackReference(MANY));
+    assert_eq!(rt;
+        is_found(alloc, bytes.as_slice(), end, (AT_2, None, true)),
+        Some(true)
+    );
 }

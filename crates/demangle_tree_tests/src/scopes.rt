@@ -1,163 +1,175 @@
 //! Scopes: the look-ups, and the mark of a list.
 
-use crate::nodes::{both, handle};
-use crate::worked::int;
-use demangle_scope::{
-    ArgScopeStack, ScopeItem, scope_in_arg, scope_leaf_name, scope_push, scope_template_arg,
+use crate::reading::table_of;
+use crate::worked::INT;
+use demangle_entries::{
+    Identifier, LeafName, SourceName, Substitutable, TemplateArg, TypeHandle, TypeNode,
 };
-use demangle_text::{Error, Result};
-use demangle_tree::{Identifier, LeafName, SourceName, TemplateArg, TemplateArgs, TypeHandle};
+use demangle_release::release_table;
+use demangle_scope::{ScopeItem, scope_in_arg, scope_leaf_name, scope_push, scope_template_arg};
+use demangle_table::SubstitutionTable;
+use demangle_text::Error;
 use std::alloc::Global;
 
-// Both values as a list. What is dropped where memory is wanting is dropped here.
-fn pair<A: Drop>(alloc: Global, one: A, other: A) -> Result<Vec<A>> {
-    let mut list = Vec::new(alloc);
-    list.push(one)?;
-    list.push(other)?;
-    Ok(list)
+/// Three types of the compiler's vendor, each in the one before. Their lists of arguments have `int` and component 0,
+/// `int` and component 1, and `int`.
+const TYPES: &[u8] = b"U1aIiPiEU1bIiRiEU1cIiEi";
+
+/// The components of these types, and the places of their lists.
+const FIRST: usize = 4;
+
+const FIRST_PLACE: usize = 3;
+
+const SECOND: usize = 3;
+
+const SECOND_PLACE: usize = 11;
+
+const SHORT: usize = 2;
+
+const SHORT_PLACE: usize = 19;
+
+/// The arguments of a component, or its name.
+#[derive(Clone, Copy)]
+enum Item {
+    Args(usize),
+    Name(usize),
 }
 
-// The type `int` and a reference to component 3, at a place.
-fn two_at(alloc: Global, place: usize) -> Result<TemplateArgs> {
-    pair(
-        alloc,
-        TemplateArg::TypeArg(int()),
-        TemplateArg::TypeArg(handle()),
-    )
-    .map(|list| TemplateArgs(list, place))
-}
+/// A scope: its entries, the newest last, and the member of a component's list that is being printed.
+type Scope = (&'static [Item], Option<(usize, usize)>);
 
-// Whether both lists could be made, and the test holds of them.
-fn holds<A: Drop, T: Fn(&A, &A) -> bool>(lists: Result<(A, A)>, test: T) -> bool
-    requires { T.IsAlwaysCallable test }
-{
-    match lists {
-        Ok((one, other)) => test(&one, &other),
-        Err(_) => false,
+/// The type that an argument of a scope is, with the place of its list, and the scope's leaf name.
+type Answers = (
+    Result<(TypeHandle, usize), Error>,
+    Result<SourceName, Error>,
+);
+
+/// A scope, the number of an argument, and what is found.
+type Case = (Scope, usize, Answers);
+
+/// The name of the first type.
+const NAME: SourceName = SourceName(Identifier { start: 2, end: 3 });
+
+/// What is answered where no entry is a leaf name.
+const NO_LEAF: Result<SourceName, Error> = Err(Error::BadLeafNameReference);
+
+/// A list that is being printed hides what follows; another doesn't. The newest list that has the member gives it. A
+/// leaf name is found behind a list.
+const CASES: [Case; 10] = [
+    (
+        (&[], None),
+        0,
+        (Err(Error::BadTemplateArgReference), NO_LEAF),
+    ),
+    (
+        (&[Item::Args(FIRST)], Some((1, FIRST))),
+        0,
+        (Ok((INT, FIRST_PLACE)), NO_LEAF),
+    ),
+    (
+        (&[Item::Args(FIRST)], Some((1, FIRST))),
+        1,
+        (Err(Error::ForwardTemplateArgReference), NO_LEAF),
+    ),
+    (
+        (&[Item::Args(FIRST)], Some((1, FIRST))),
+        2,
+        (Err(Error::BadTemplateArgReference), NO_LEAF),
+    ),
+    (
+        (&[Item::Args(FIRST)], Some((1, SECOND))),
+        1,
+        (Ok((TypeHandle::BackReference(0), FIRST_PLACE)), NO_LEAF),
+    ),
+    (
+        (&[Item::Args(FIRST), Item::Args(SECOND)], None),
+        1,
+        (Ok((TypeHandle::BackReference(1), SECOND_PLACE)), NO_LEAF),
+    ),
+    (
+        (&[Item::Args(FIRST), Item::Args(SHORT)], None),
+        0,
+        (Ok((INT, SHORT_PLACE)), NO_LEAF),
+    ),
+    (
+        (&[Item::Args(FIRST), Item::Args(SHORT)], None),
+        1,
+        (Ok((TypeHandle::BackReference(0), FIRST_PLACE)), NO_LEAF),
+    ),
+    (
+        (&[Item::Name(FIRST)], None),
+        0,
+        (Err(Error::BadTemplateArgReference), Ok(NAME)),
+    ),
+    (
+        (&[Item::Name(FIRST), Item::Args(FIRST)], None),
+        0,
+        (Ok((INT, FIRST_PLACE)), Ok(NAME)),
+    ),
+];
+
+fn item_of<'a>(subs: &'a SubstitutionTable, item: Option<&Item>) -> Option<ScopeItem<'a>> {
+    let (idx, is_name) = match item? {
+        Item::Args(idx) => (*idx, false),
+        Item::Name(idx) => (*idx, true),
+    };
+    match subs.get(idx)? {
+        Substitutable::TypeNode(TypeNode::VendorExtension(name, _, _)) if is_name => {
+            Some(ScopeItem::SourceName(name))
+        }
+        Substitutable::TypeNode(TypeNode::VendorExtension(_, Some(args), _)) => {
+            Some(ScopeItem::Args(args))
+        }
+        _ => None,
     }
 }
 
-// The type that an argument is.
-fn type_at(scope: &Option<ArgScopeStack<'_, '_>>, idx: usize) -> Result<Option<TypeHandle>> {
-    match scope_template_arg(scope, idx) {
-        Ok((TemplateArg::TypeArg(argument), _)) => Ok(Some(*argument)),
-        Ok(_) => Ok(None),
+/// What the look-ups answer; `None` where the argument is no type, or the leaf name no identifier.
+fn answers(subs: &SubstitutionTable, scope: Scope, idx: usize) -> Option<Answers> {
+    let (items, mark) = scope;
+    let nothing = None;
+    let older = match item_of(subs, items.get(0)) {
+        Some(item) => scope_push(&nothing, item),
+        None => nothing,
+    };
+    let newer = match item_of(subs, items.get(1)) {
+        Some(item) => scope_push(&older, item),
+        None => older,
+    };
+    let scope = match mark {
+        Some((index, list)) => match item_of(subs, Some(&Item::Args(list))) {
+            Some(ScopeItem::Args(list)) => scope_in_arg(newer, index, list),
+            _ => None,
+        },
+        None => newer,
+    };
+    let argument = match scope_template_arg(&scope, idx) {
+        Ok((TemplateArg::TypeArg(argument), list)) => Ok((*argument, list.1)),
+        Ok(_) => return None,
         Err(error) => Err(error),
-    }
-}
-
-fn is_type(found: Result<Option<TypeHandle>>, wanted: TypeHandle) -> bool {
-    match found {
-        Ok(Some(found)) => found == wanted,
-        _ => false,
-    }
-}
-
-fn is_error(found: Result<Option<TypeHandle>>, wanted: Error) -> bool {
-    match found {
-        Ok(_) => false,
-        Err(error) => error == wanted,
-    }
-}
-
-fn has_no_leaf(scope: &Option<ArgScopeStack<'_, '_>>) -> bool {
-    match scope_leaf_name(scope) {
-        Ok(_) => false,
-        Err(error) => error == Error::BadLeafNameReference,
-    }
-}
-
-// A list that is being printed, at its second member: its first member may be meant.
-fn own_mark_is_met(list: &TemplateArgs, _other: &TemplateArgs) -> bool {
-    let nothing = None;
-    let scope = scope_in_arg(scope_push(&nothing, ScopeItem::Args(list)), 1, list);
-    is_type(type_at(&scope, 0), int())
-        && is_error(type_at(&scope, 1), Error::ForwardTemplateArgReference)
-        && is_error(type_at(&scope, 2), Error::BadTemplateArgReference)
-}
-
-// A mark with the place of another list hides no member.
-fn other_mark_is_passed(list: &TemplateArgs, other: &TemplateArgs) -> bool {
-    let nothing = None;
-    let scope = scope_in_arg(scope_push(&nothing, ScopeItem::Args(list)), 1, other);
-    is_type(type_at(&scope, 1), handle())
-}
-
-// The newest list that has the member gives it; its place tells which it was.
-fn newest_list_gives(list: &TemplateArgs, other: &TemplateArgs) -> bool {
-    let nothing = None;
-    let older = scope_push(&nothing, ScopeItem::Args(list));
-    let scope = scope_push(&older, ScopeItem::Args(other));
-    match scope_template_arg(&scope, 1) {
-        Ok((_, found)) => found.1 == other.1,
-        Err(_) => false,
-    }
-}
-
-// A name and a list.
-#[derive(Drop)]
-struct Named {
-    name: SourceName,
-    list: TemplateArgs,
-}
-
-fn with_a_name(list: Result<TemplateArgs>) -> Result<Named> {
-    match list {
-        Ok(list) => Ok(Named {
-            name: SourceName(Identifier { start: 4, end: 7 }),
-            list,
-        }),
+    };
+    let leaf = match scope_leaf_name(&scope) {
+        Ok(LeafName::SourceName(name)) => Ok(*name),
+        Ok(_) => return None,
         Err(error) => Err(error),
+    };
+    Some((argument, leaf))
+}
+
+/// The number of a case that comes out otherwise.
+fn wrong(alloc: Global) -> Option<Option<usize>> {
+    let subs = table_of(alloc, TYPES)?;
+    let mut wrong = None;
+    for (i, (scope, idx, wanted)) in CASES.iter().enumerate() {
+        if answers(&subs, *scope, *idx) != Some(*wanted) {
+            wrong = Some(i);
+        }
     }
-}
-
-// A leaf name is found behind a list.
-fn leaf_is_behind(item: &Named, _other: &Named) -> bool {
-    let nothing = None;
-    let older = scope_push(&nothing, ScopeItem::SourceName(&item.name));
-    let scope = scope_push(&older, ScopeItem::Args(&item.list));
-    match scope_leaf_name(&scope) {
-        Ok(LeafName::SourceName(found)) => *found == item.name,
-        _ => false,
-    }
-}
-
-// An empty list, and then one that has the member.
-fn shorter_list_is_passed(list: &TemplateArgs, empty: &TemplateArgs) -> bool {
-    let nothing = None;
-    let older = scope_push(&nothing, ScopeItem::Args(list));
-    let scope = scope_push(&older, ScopeItem::Args(empty));
-    is_type(type_at(&scope, 0), int())
+    release_table(subs);
+    Some(wrong)
 }
 
 #[test]
-fn a_list_that_is_being_printed_hides_what_follows(rt: HostRuntime) {
-    let alloc = rt.alloc();
-    assert!(rt; holds(both(two_at(alloc, 5), two_at(alloc, 9)), own_mark_is_met));
-    assert!(rt;
-        holds(
-            both(two_at(alloc, 5), two_at(alloc, 9)),
-            other_mark_is_passed
-        )
-    );
-}
-
-#[test]
-fn the_newest_entry_answers(rt: HostRuntime) {
-    let alloc = rt.alloc();
-    let empty = Ok(TemplateArgs(Vec::new(alloc), 9));
-    assert!(rt; holds(both(two_at(alloc, 5), two_at(alloc, 9)), newest_list_gives));
-    assert!(rt;
-        holds(
-            both(with_a_name(two_at(alloc, 5)), with_a_name(two_at(alloc, 9))),
-            leaf_is_behind
-        )
-    );
-    assert!(rt; holds(both(two_at(alloc, 5), empty), shorter_list_is_passed));
-}
-
-#[test]
-fn nothing_is_found_in_no_scope(rt: HostRuntime) {
-    assert!(rt; has_no_leaf(&None));
-    assert!(rt; is_error(type_at(&None, 0), Error::BadTemplateArgReference));
+fn a_scope_gives_what_its_entries_have(rt: HostRuntime) {
+    assert_eq!(rt; wrong(rt.alloc()), Some(None));
 }

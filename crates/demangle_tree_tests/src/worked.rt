@@ -1,110 +1,321 @@
-//! Nodes that the tests are made of. They promise nothing, so a test knows of them what it finds when it runs.
+//! Tables that are made by hand, call by call, and what no reading gives: references that go round or to nothing.
 
+use crate::components::is_table_copied;
+use crate::lookups::{NOTHING, Of, is_found_in};
+use demangle_discard::Discard;
 use demangle_entries::{
-    AbiTags, BuiltinType, CtorDtorName, Identifier, LeafName, OperatorName, Prefix, PrefixHandle,
-    SourceName, Substitutable, TemplateArgs, TypeHandle, TypeNode, UnqualifiedName,
+    AbiTags, BuiltinType, CtorDtorName, Identifier, Prefix, PrefixHandle, SourceName,
+    Substitutable, TypeHandle, TypeNode, UnqualifiedName,
 };
+use demangle_release::release_table;
 use demangle_table::SubstitutionTable;
-use demangle_vocab::{SimpleOperatorName, StandardBuiltinType};
+use demangle_vocab::StandardBuiltinType;
 use std::alloc::Global;
 
 /// The type `int`.
-pub fn int() -> TypeHandle {
-    TypeHandle::Builtin(BuiltinType::Standard(StandardBuiltinType::Int))
+pub const INT: TypeHandle = TypeHandle::Builtin(BuiltinType::Standard(StandardBuiltinType::Int));
+
+/// A component: a pointer to `int`, a class, or a constructor in the component of a number.
+#[derive(Clone, Copy, Debug, PartialEq, Eq)]
+enum Component {
+    Pointer,
+    Class,
+    Link(usize),
 }
 
-/// A pointer to `int`, as a component.
-pub fn pointer_to_int() -> Substitutable {
-    Substitutable::TypeNode(TypeNode::PointerTo(int()))
+/// A call of the table.
+#[derive(Clone, Copy)]
+enum Step {
+    Insert(Component),
+    InsertOther(Component),
+    Pop,
+    Cut(usize, usize),
 }
 
-/// Whether the type is a pointer to `int`.
-pub fn is_type_pointer_to_int(node: &TypeNode) -> bool {
+/// The position that an insertion answers, or what came out of the table, where either is.
+#[derive(Clone, Copy, Debug, PartialEq, Eq)]
+enum Answer {
+    Position(usize),
+    Out(Component),
+    Nothing,
+}
+
+/// A call, its answer, and what the two lists hold behind it.
+type Line = (Step, Answer, &'static [Component], &'static [Component]);
+
+/// All calls that change a table.
+const SCRIPT: [Line; 14] = [
+    (Step::Pop, Answer::Nothing, &[], &[]),
+    (
+        Step::Insert(Component::Pointer),
+        Answer::Position(0),
+        &[Component::Pointer],
+        &[],
+    ),
+    (
+        Step::InsertOther(Component::Pointer),
+        Answer::Position(0),
+        &[Component::Pointer],
+        &[Component::Pointer],
+    ),
+    (Step::Cut(1, 0), Answer::Nothing, &[Component::Pointer], &[]),
+    (
+        Step::InsertOther(Component::Pointer),
+        Answer::Position(0),
+        &[Component::Pointer],
+        &[Component::Pointer],
+    ),
+    (Step::Cut(0, 1), Answer::Nothing, &[], &[Component::Pointer]),
+    (Step::Cut(3, 3), Answer::Nothing, &[], &[Component::Pointer]),
+    (
+        Step::Insert(Component::Class),
+        Answer::Position(0),
+        &[Component::Class],
+        &[Component::Pointer],
+    ),
+    (
+        Step::Insert(Component::Pointer),
+        Answer::Position(1),
+        &[Component::Class, Component::Pointer],
+        &[Component::Pointer],
+    ),
+    (
+        Step::InsertOther(Component::Link(1)),
+        Answer::Position(1),
+        &[Component::Class, Component::Pointer],
+        &[Component::Pointer, Component::Link(1)],
+    ),
+    (
+        Step::Pop,
+        Answer::Out(Component::Pointer),
+        &[Component::Class],
+        &[Component::Pointer, Component::Link(1)],
+    ),
+    (
+        Step::Pop,
+        Answer::Out(Component::Class),
+        &[],
+        &[Component::Pointer, Component::Link(1)],
+    ),
+    (
+        Step::Pop,
+        Answer::Nothing,
+        &[],
+        &[Component::Pointer, Component::Link(1)],
+    ),
+    (Step::Cut(0, 0), Answer::Nothing, &[], &[]),
+];
+
+/// The component as a node.
+fn made(alloc: Global, component: Component) -> Substitutable {
+    match component {
+        Component::Pointer => Substitutable::TypeNode(TypeNode::PointerTo(INT)),
+        Component::Class => Substitutable::Prefix(Prefix::Unqualified(UnqualifiedName::Source(
+            SourceName(Identifier { start: 0, end: 1 }),
+            AbiTags(Vec::new(alloc)),
+        ))),
+        Component::Link(idx) => Substitutable::Prefix(Prefix::Nested(
+            PrefixHandle::BackReference(idx),
+            UnqualifiedName::CtorDtor(
+                CtorDtorName::CompleteConstructor(None),
+                AbiTags(Vec::new(alloc)),
+            ),
+        )),
+    }
+}
+
+/// Which component the node is.
+fn known(node: &Substitutable) -> Option<Component> {
     match node {
-        TypeNode::PointerTo(pointee) => *pointee == int(),
-        _ => false,
+        Substitutable::TypeNode(TypeNode::PointerTo(to)) if *to == INT => Some(Component::Pointer),
+        Substitutable::Prefix(Prefix::Unqualified(_)) => Some(Component::Class),
+        Substitutable::Prefix(Prefix::Nested(PrefixHandle::BackReference(idx), _)) => {
+            Some(Component::Link(*idx))
+        }
+        _ => None,
     }
 }
 
-/// Whether the component is a pointer to `int`.
-pub fn is_pointer_to_int(entry: &Substitutable) -> bool {
-    match entry {
-        Substitutable::TypeNode(node) => is_type_pointer_to_int(node),
-        _ => false,
+/// What a call answers; nothing where an insertion wants memory.
+fn done(alloc: Global, subs: &mut SubstitutionTable, step: Step) -> Answer {
+    let inserted = match step {
+        Step::Insert(component) => subs.insert(made(alloc, component)),
+        Step::InsertOther(component) => subs.insert_non_substitution(made(alloc, component)),
+        Step::Pop => {
+            let Some(node) = subs.pop() else {
+                return Answer::Nothing;
+            };
+            let out = known(&node);
+            node.discard();
+            return out.map_or(Answer::Nothing, Answer::Out);
+        }
+        Step::Cut(numbered, others) => {
+            subs.cut_back((numbered, others));
+            return Answer::Nothing;
+        }
+    };
+    match inserted {
+        Ok(at) => Answer::Position(at),
+        Err(back) => {
+            back.discard();
+            Answer::Nothing
+        }
     }
 }
 
-/// The identifier from 0 to 1, with no tags.
-pub fn class_name(alloc: Global) -> UnqualifiedName {
-    UnqualifiedName::Source(
-        SourceName(Identifier { start: 0, end: 1 }),
-        AbiTags(Vec::new(alloc)),
-    )
-}
-
-/// The prefix of `class_name`, as a component.
-pub fn class(alloc: Global) -> Substitutable {
-    Substitutable::Prefix(Prefix::Unqualified(class_name(alloc)))
-}
-
-/// Whether this is the identifier of `class_name`.
-pub fn is_class(leaf: Option<LeafName<'_>>) -> bool {
-    match leaf {
-        Some(LeafName::SourceName(name)) => *name == SourceName(Identifier { start: 0, end: 1 }),
-        _ => false,
+/// The component at a position of the second list, by the call that wants one there.
+#[tactic(auto, unfolding(demangle_core::specs::Table::size, demangle_core::specs::Table::sizes))]
+fn other(subs: &SubstitutionTable, idx: usize) -> Option<Component> {
+    if idx < subs.lengths().1 {
+        known(subs.non_substitution(idx))
+    } else {
+        None
     }
 }
 
-/// The position that an insertion answers; `None` for want of memory.
-pub fn position(inserted: Result<usize, Substitutable>) -> Option<usize> {
-    inserted.ok()
+/// Whether the calls that look at the table find these components and no more.
+fn holds(subs: &SubstitutionTable, numbered: &[Component], others: &[Component]) -> bool {
+    let (count, other_count) = (numbered.len(), others.len());
+    for (i, component) in numbered.iter().enumerate() {
+        let found = subs.get(i).and_then(known);
+        let is_type = subs.get_type(&TypeHandle::BackReference(i)).is_some();
+        if found != Some(*component)
+            || !subs.contains(i)
+            || is_type != (found == Some(Component::Pointer))
+        {
+            return false;
+        }
+    }
+    for (i, component) in others.iter().enumerate() {
+        let found = subs.get_non_substitution(i).and_then(known);
+        if found != Some(*component) || other(subs, i) != found {
+            return false;
+        }
+    }
+    subs.lengths() == (count, other_count)
+        && subs.len() == count
+        && subs.iter().count() == count
+        && subs.entry_count() == count.wrapping_add(other_count)
+        && subs.get(count).is_none()
+        && subs.get_type(&TypeHandle::BackReference(count)).is_none()
+        && subs.get_type(&INT).is_none()
+        && !subs.contains(count)
+        && subs.get_non_substitution(other_count).is_none()
 }
 
-/// A table whose entry 0 is `class`.
-pub fn table_of_class(alloc: Global) -> Option<SubstitutionTable> {
+/// The number of the first line that comes out otherwise.
+fn first_wrong(alloc: Global, script: &[Line]) -> Option<usize> {
     let mut subs = SubstitutionTable::new(alloc);
-    position(subs.insert(class(alloc)))?;
-    Some(subs)
+    let mut wrong = None;
+    for (i, (step, answer, numbered, others)) in script.iter().enumerate() {
+        let is_right = done(alloc, &mut subs, *step) == *answer && holds(&subs, *numbered, *others);
+        if wrong.is_none() && !is_right {
+            wrong = Some(i);
+        }
+    }
+    release_table(subs);
+    wrong
 }
 
-/// A complete constructor.
-pub fn constructor(alloc: Global) -> UnqualifiedName {
-    UnqualifiedName::CtorDtor(
-        CtorDtorName::CompleteConstructor(None),
-        AbiTags(Vec::new(alloc)),
-    )
+#[test]
+fn the_calls_of_the_table_one_after_another(rt: HostRuntime) {
+    assert_eq!(rt; first_wrong(rt.alloc(), &SCRIPT), None);
 }
 
-/// A complete destructor.
-pub fn destructor(alloc: Global) -> UnqualifiedName {
-    UnqualifiedName::CtorDtor(CtorDtorName::CompleteDestructor, AbiTags(Vec::new(alloc)))
+/// A table behind these insertions.
+fn table_after(alloc: Global, steps: &[Step]) -> SubstitutionTable {
+    let mut subs = SubstitutionTable::new(alloc);
+    for step in steps {
+        done(alloc, &mut subs, *step);
+    }
+    subs
 }
 
-/// A conversion to `int`.
-pub fn conversion_to_int(alloc: Global) -> UnqualifiedName {
-    UnqualifiedName::Operator(OperatorName::Conversion(int()), AbiTags(Vec::new(alloc)))
+/// Calls, other calls, and whether the tables are equal behind them.
+type Pair = (&'static [Step], &'static [Step], bool);
+
+/// The order between the lists is left out by equality.
+const PAIRS: [Pair; 3] = [
+    (&[], &[], true),
+    (&[], &[Step::InsertOther(Component::Class)], false),
+    (
+        &[
+            Step::Insert(Component::Pointer),
+            Step::InsertOther(Component::Pointer),
+        ],
+        &[
+            Step::InsertOther(Component::Pointer),
+            Step::Insert(Component::Pointer),
+        ],
+        true,
+    ),
+];
+
+/// Whether the tables are equal, and whether both are copied.
+fn compared(alloc: Global, steps: &[Step], other: &[Step]) -> (bool, bool) {
+    let one = table_after(alloc, steps);
+    let two = table_after(alloc, other);
+    let found = (
+        one == two,
+        is_table_copied(alloc, &one) && is_table_copied(alloc, &two),
+    );
+    release_table(one);
+    release_table(two);
+    found
 }
 
-/// The operator `new`.
-pub fn operator_new(alloc: Global) -> UnqualifiedName {
-    UnqualifiedName::Operator(
-        OperatorName::Simple(SimpleOperatorName::New),
-        AbiTags(Vec::new(alloc)),
-    )
+#[test]
+fn the_order_between_the_lists_is_left_out_by_equality(rt: HostRuntime) {
+    for (i, (steps, other, are_equal)) in PAIRS.iter().enumerate() {
+        assert_eq!(rt;
+            compared(rt.alloc(), *steps, *other),
+            (*are_equal, true),
+            "pair {i}"
+        );
+    }
 }
 
-/// The template arguments of place 7, none of them, under the name of entry 0.
-pub fn template_of_class(alloc: Global) -> Substitutable {
-    Substitutable::Prefix(Prefix::Template(
-        PrefixHandle::BackReference(0),
-        TemplateArgs(Vec::new(alloc), 7),
-    ))
+/// Whether a list of one component becomes its table.
+fn is_list_held(alloc: Global) -> bool {
+    let mut list = Vec::new(alloc);
+    if let Err(refused) = list.push(made(alloc, Component::Pointer)) {
+        refused.value.discard();
+        list.discard();
+        return false;
+    }
+    let subs = SubstitutionTable::from_list(alloc, list);
+    let is_held = holds(&subs, &[Component::Pointer], &[]) && is_table_copied(alloc, &subs);
+    release_table(subs);
+    is_held
 }
 
-/// The place of these arguments.
-pub fn place(args: Option<&TemplateArgs>) -> Option<usize> {
-    match args {
-        Some(args) => Some(args.1),
-        None => None,
+#[test]
+fn a_list_becomes_a_table(rt: HostRuntime) {
+    assert!(rt; is_list_held(rt.alloc()));
+}
+
+/// References that go round, in one component and in two, and one to nothing.
+const ROUNDS: [&[Step]; 3] = [
+    &[Step::Insert(Component::Link(0))],
+    &[
+        Step::Insert(Component::Link(1)),
+        Step::Insert(Component::Link(0)),
+    ],
+    &[Step::Insert(Component::Link(5))],
+];
+
+/// Whether the look-ups end with no name and no arguments.
+fn has_no_leaf(alloc: Global, steps: &[Step]) -> bool {
+    let subs = table_after(alloc, steps);
+    let first = Of::Prefix(PrefixHandle::BackReference(0));
+    let has_no_leaf = is_found_in(alloc, &subs, first, (NOTHING, None, true));
+    release_table(subs);
+    has_no_leaf
+}
+
+#[test]
+fn references_that_go_round_have_no_leaf(rt: HostRuntime) {
+    for (i, steps) in ROUNDS.iter().enumerate() {
+        assert!(rt; has_no_leaf(rt.alloc(), *steps), "table {i}");
     }
 }
