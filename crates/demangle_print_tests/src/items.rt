@@ -146,7 +146,7 @@ fn left_behind<'a>(
     subs: &'a SubstitutionTable,
     types: &'a [TypeHandle; 1],
     sink: &mut TextSink,
-) -> Result<(usize, u32), DemangleError> {
+) -> Result<(usize, usize), DemangleError> {
     let mut ctx = DemangleContext::new(alloc, subs, b"", DemangleOptions::new(), sink)?;
     for item in waiting {
         if let Some(item) = inner_item(subs, *item) {
@@ -155,7 +155,7 @@ fn left_behind<'a>(
         ctx.enter()?;
     }
     done(call, subs, types, &mut ctx)?;
-    Ok((ctx.inner_len(), ctx.recursion_level()))
+    Ok((ctx.inner_len(), ctx.recursion_level() as usize))
 }
 
 /// The number of the first case that comes out otherwise.
@@ -163,8 +163,8 @@ fn first_other(alloc: Global, subs: &SubstitutionTable, cases: &[Case]) -> Optio
     let types = [int()];
     for (i, (call, waiting, text, left)) in cases.iter().enumerate() {
         let mut sink = TextSink::new(alloc);
-        let level = waiting.len() as u32;
-        if left_behind(alloc, (*call, *waiting), subs, &types, &mut sink) != Ok((*left, level))
+        if left_behind(alloc, (*call, *waiting), subs, &types, &mut sink)
+            != Ok((*left, waiting.len()))
             || sink.as_str() != *text
         {
             return Some(i);

@@ -6,7 +6,9 @@ use demangle_entries::{
     Identifier, LeafName, SourceName, Substitutable, TemplateArg, TypeHandle, TypeNode,
 };
 use demangle_release::release_table;
-use demangle_scope::{ScopeItem, scope_in_arg, scope_leaf_name, scope_push, scope_template_arg};
+use demangle_scope::{
+    ArgScopeStack, ScopeItem, scope_in_arg, scope_leaf_name, scope_push, scope_template_arg,
+};
 use demangle_table::SubstitutionTable;
 use demangle_text::Error;
 use std::alloc::Global;
@@ -125,24 +127,7 @@ fn item_of<'a>(subs: &'a SubstitutionTable, item: Option<&Item>) -> Option<Scope
 }
 
 /// What the look-ups answer; `None` where the argument is no type, or the leaf name no identifier.
-fn answers(subs: &SubstitutionTable, scope: Scope, idx: usize) -> Option<Answers> {
-    let (items, mark) = scope;
-    let nothing = None;
-    let older = match item_of(subs, items.get(0)) {
-        Some(item) => scope_push(&nothing, item),
-        None => nothing,
-    };
-    let newer = match item_of(subs, items.get(1)) {
-        Some(item) => scope_push(&older, item),
-        None => older,
-    };
-    let scope = match mark {
-        Some((index, list)) => match item_of(subs, Some(&Item::Args(list))) {
-            Some(ScopeItem::Args(list)) => scope_in_arg(newer, index, list),
-            _ => None,
-        },
-        None => newer,
-    };
+fn found(scope: Option<ArgScopeStack<'_, '_>>, idx: usize) -> Option<Answers> {
     let argument = match scope_template_arg(&scope, idx) {
         Ok((TemplateArg::TypeArg(argument), list)) => Ok((*argument, list.1)),
         Ok(_) => return None,
@@ -154,6 +139,35 @@ fn answers(subs: &SubstitutionTable, scope: Scope, idx: usize) -> Option<Answers
         Err(error) => Err(error),
     };
     Some((argument, leaf))
+}
+
+/// The same where a member of a component's list is being printed.
+fn found_in<'subs>(
+    subs: &'subs SubstitutionTable,
+    scope: Option<ArgScopeStack<'_, 'subs>>,
+    mark: Option<(usize, usize)>,
+    idx: usize,
+) -> Option<Answers> {
+    let Some((index, list)) = mark else {
+        return found(scope, idx);
+    };
+    match item_of(subs, Some(&Item::Args(list))) {
+        Some(ScopeItem::Args(list)) => found(scope_in_arg(scope, index, list), idx),
+        _ => None,
+    }
+}
+
+fn answers(subs: &SubstitutionTable, scope: Scope, idx: usize) -> Option<Answers> {
+    let (items, mark) = scope;
+    let nothing = None;
+    let Some(first) = item_of(subs, items.get(0)) else {
+        return found_in(subs, None, mark, idx);
+    };
+    let older = scope_push(&nothing, first);
+    match item_of(subs, items.get(1)) {
+        Some(second) => found_in(subs, scope_push(&older, second), mark, idx),
+        None => found_in(subs, older, mark, idx),
+    }
 }
 
 /// The number of a case that comes out otherwise.
