@@ -54,7 +54,7 @@ is_char (b ∷ bs) h = elim (cases_lt b 128) [
 ]
 
 -- a character's bytes at the front are found
-found_ascii : (c : ℕ) (bs : List ℕ) → c < 128 → is_identifier_byte c ≡ true → char_len (c ∷ bs) ≡ 1
+pub found_ascii : (c : ℕ) (bs : List ℕ) → c < 128 → is_identifier_byte c ≡ true → char_len (c ∷ bs) ≡ 1
 found_ascii c bs small e = ap (λ z. char_len_of z c bs) (lt-ltb c 128 small) ∙ ap one_if e
 
 -- the first byte of a character past U+007F is none below 128

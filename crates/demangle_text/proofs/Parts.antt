@@ -1,17 +1,14 @@
 -- The run of an identifier, part by part: ASCII characters, or one character past U+007F.
-use Rattle.std.proofs.Common.{◌≡◌, ℕ, zero, suc, ◌+◌, ◌<◌, Bool, true, false, nat_lt, List, [], ◌∷◌, drop, refl, ap, ◌∙◌, subst, if◌then◌else◌, arith, lt-ltb}
+use Rattle.std.proofs.Common.{◌≡◌, ℕ, zero, suc, ◌+◌, ◌<◌, Bool, true, false, nat_lt, List, [], ◌∷◌, drop, refl, ap, ◌∙◌, subst, if◌then◌else◌, arith}
 use Rattle.std.proofs.lemmas.Bool.Decides.{nat_tests}
 use Rattle.demangle_text.specs.Bytes.{span}
-use Rattle.demangle_text.specs.Characters.{is_identifier_byte, sequence_len, one_if, char_len_of, char_len, identifier_len, run_past, counted}
+use Rattle.demangle_text.specs.Characters.{is_identifier_byte, sequence_len, one_if, char_len_of, identifier_len, run_past, counted}
 use Rattle.demangle_text.proofs.Runs.{run_ends, run_goes_on, sequence_len_inside}
-use Rattle.demangle_text.proofs.Identifiers.{past_ascii}
+use Rattle.demangle_text.proofs.Identifiers.{found_ascii, past_ascii}
 
 -- ---- ASCII characters
-is_small_byte : (b : ℕ) → is_identifier_byte b ≡ true → b < 128
-is_small_byte b e = grind (arith, nat_tests, e)
-
-ascii_char : (b : ℕ) (bs : List ℕ) → is_identifier_byte b ≡ true → char_len (b ∷ bs) ≡ 1
-ascii_char b bs e = ap (λ z. char_len_of z b bs) (lt-ltb b 128 (is_small_byte b e)) ∙ ap one_if e
+is_ascii : (b : ℕ) → is_identifier_byte b ≡ true → b < 128
+is_ascii b e = grind (arith, nat_tests, e)
 
 pub by_ascii : (bs : List ℕ) → identifier_len bs ≡ span is_identifier_byte bs + identifier_len (drop (span is_identifier_byte bs) bs)
 by_ascii [] = refl
@@ -19,7 +16,7 @@ by_ascii (b ∷ bs) = by (is_identifier_byte b) refl (by_ascii bs)
   where
     by : (z : Bool) → is_identifier_byte b ≡ z → identifier_len bs ≡ span is_identifier_byte bs + identifier_len (drop (span is_identifier_byte bs) bs) → identifier_len (b ∷ bs) ≡ span is_identifier_byte (b ∷ bs) + identifier_len (drop (span is_identifier_byte (b ∷ bs)) (b ∷ bs))
     by true e behind =
-        let one : identifier_len (b ∷ bs) ≡ suc (identifier_len bs) = ap (λ n. counted n (λ k. run_past k bs)) (ascii_char b bs e) in
+        let one : identifier_len (b ∷ bs) ≡ suc (identifier_len bs) = ap (λ n. counted n (λ k. run_past k bs)) (found_ascii b bs (is_ascii b e) e) in
         rw e (omega (arith, one, behind))
     by false e behind = rw e (omega arith)
 
