@@ -1,9 +1,10 @@
 # The two commands of the README.
 .PHONY: cppfilt test
 
-# Proves and builds the program and leaves it here as ./cppfilt. The first time takes some minutes.
+# Proves and builds the program and leaves it here as ./cppfilt. The first time all that it stands on is proved, which
+# takes an hour or two.
 cppfilt:
-	@echo "proving and building cppfilt (the first time takes some minutes)"
+	@echo "proving and building cppfilt (the first time takes an hour or two)"
 	@log=$$(mktemp); \
 	if (cd crates/cppfilt && rt run) < /dev/null > "$$log" 2>&1; then \
 	    rm -f "$$log"; \
@@ -13,6 +14,6 @@ cppfilt:
 	@cp crates/cppfilt/out/cppfilt cppfilt
 	@echo "built ./cppfilt"
 
-# The gate: every proof from nothing, the must-fail edits, the tests and the program.
+# The gate: every proof, the must-fail edits, the tests and the program.
 test:
 	@rt ci
