@@ -7,13 +7,8 @@ use Rattle.demangle_text.specs.Texts.{error_text}
 use Rattle.demangle_text.specs.declared.error.Error.TheVariants as reading
 use Rattle.demangle_printing.specs.Outcome.{Outcome, Shown, NotRead, NotPrinted, outcome}
 use Rattle.demangle_context.specs.Errors.{printing_text}
-use Rattle.demangle_context.specs.Options.{default_options}
 use Rattle.demangle_context.specs.TroubleOf.{error_at}
 use Rattle.cppfilt_lines.specs.declared.options.FilterOptions.{FilterOptions}
-
--- the options where none was set
-abbrev pub defaults : FilterOptions
-defaults = record { parse = 96; print = default_options; types = false; why = false }
 
 -- ---- which lines are asked
 -- a longer line is never asked for its text

@@ -6,7 +6,6 @@ use cpp_demangle::{
     BorrowedSymbol, DemangleOptions, OwnedSymbol, ParseOptions, SymbolFault,
     structured_demangle_symbol,
 };
-use demangle_copies::TryClone;
 use std::test::Fail;
 
 const NAME: &[u8] = b"_ZN5space3fooEibc";
