@@ -25,7 +25,7 @@ def as_item(parameters, body):
 
 
 def definitions():
-    """Parameters and body by name; the line of a node is `line` and its tag, what of it stands behind `inside` and its tag."""
+    """Parameters and body by name; a node's line is `line` and its tag, what stands behind it `inside` and its tag."""
     notation, found = {}, {}
     for name, patterns, text in antt.clauses(ITEMS):
         notation[name] = as_item(patterns, antt.parsed(text))

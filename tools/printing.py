@@ -5,7 +5,8 @@ import leaves
 
 sys.setrecursionlimit(1000000)
 FUEL = 20000  # so many jobs at most; an edited line may go on and on
-WANTS = {"PointerToMemberType": 2, "TypeNodeQualified": 2, "TypeNodePointerTo": 1, "TypeNodeLvalueRef": 1, "TypeNodeRvalueRef": 1}
+WANTS = {"PointerToMemberType": 2, "TypeNodeQualified": 2, "TypeNodePointerTo": 1}
+WANTS |= {"TypeNodeLvalueRef": 1, "TypeNodeRvalueRef": 1}
 SORTS = {"as_prefix": "SubstitutablePrefix", "as_type": "SubstitutableTypeNode"}
 TABLES = [leaves.VOCABULARY[kind] for kind in ("operator", "builtin", "component", "ref_qualifier", "explicit_object")]
 LEAF_TEXTS = [entry[3][1][1] if entry[3][0] == "Some" else "" for entry in leaves.VOCABULARY["component"]]
@@ -29,7 +30,8 @@ class Printing:
     # ---- trees
     def look(self, x):
         """A reference, and the handle in which it stands, look like the component."""
-        reference = x if x and x[0] == "ref" else x[2][0] if x and x[0] == "node" and x[2] and x[2][0][0] == "ref" else None
+        first = x[2][0] if x and x[0] == "node" and x[2] else x
+        reference = first if first and first[0] == "ref" else None
         return self.entries[reference[1]][reference[2]] if reference else x
 
     def parts(self, x):

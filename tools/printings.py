@@ -94,7 +94,8 @@ class Printings:
         if fault:
             return ("Read", fault), b"", set()
         options = {option: line.get(option, DEFAULTS[option]) for option in OPTIONS}
-        outcome, events, seen = printing.printed(self.lines, self.read(line["name"]), line["name"].encode("latin-1"), options)
+        name = line["name"]
+        outcome, events, seen = printing.printed(self.lines, self.read(name), name.encode("latin-1"), options)
         text = b"".join(x for x in events if isinstance(x, bytes))
         if "events" in line:
             return (events, None if outcome[0] == "Text" else outcome[-1]), text, seen

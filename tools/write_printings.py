@@ -114,7 +114,8 @@ def event_of(event):
 
 def events_of(line):
     fault = "None" if line["fault"] is None else "(Some %s)" % line["fault"]
-    return "Tells %s %s %s %s" % (options_of(line), name_of(line), listed([event_of(event) for event in line["events"]]), fault)
+    events = listed([event_of(event) for event in line["events"]])
+    return "Tells %s %s %s %s" % (options_of(line), name_of(line), events, fault)
 
 
 def tree_of(tree, data, text):
@@ -234,7 +235,8 @@ def main():
                     "(refl, refl)")]
     library = os.path.join(FOLDER, "Lib.antt")
     with open(library) as file:
-        modules = [line for line in file.read().split("\n") if line and not re.fullmatch(r"mod (Prints|Tells|Expanded|Declares|ByHand)\d*", line)]
+        made = re.compile(r"mod (Prints|Tells|Expanded|Declares|ByHand)\d*")
+        modules = [line for line in file.read().split("\n") if line and not made.fullmatch(line)]
     with open(library, "w") as file:
         file.write("\n".join(sorted(modules + ["mod " + stem for stem in stems])) + "\n")
 
