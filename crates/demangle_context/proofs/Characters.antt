@@ -7,7 +7,7 @@ use Rattle.std.proofs.lemmas.Bool.{ne_eqb, ltb-false, cases_eq}
 use lib.Utf8.{encode}
 use Rattle.demangle_printing.specs.State.{last_of, is_byte}
 use Rattle.demangle_context.specs.View.{last_byte}
-use Rattle.demangle_context.specs.Calls.{EndsIn, LastChar}
+use Rattle.demangle_meets.specs.Seen.{EndsIn, LastChar}
 
 pub last_append : (d : Option ℕ) (xs ys : List ℕ) → last_of d (xs ++ ys) ≡ last_of (last_of d xs) ys
 last_append d [] ys = refl

@@ -79,7 +79,7 @@ module _ {S : Type 0} (table : S → Table) where
       Pushes l (pg None a) (pg (option_map trouble_of (full_in r)) b) x
   pushes a b l x (Ok z) pushed_on same room =
       subst (λ v. Pushes l (pg None a) (pg None v) x) (sym pushed_on) (record {
-        at_place = λ p e. goes_quietly (pushed x) refl refl refl
+        at_place = λ p e. goes_quietly (pushed x) refl refl refl refl
             (ap (λ n. record (at p.level (pg None a)) { inner = record { item = x; level = n } ∷ a.items.inner }) e);
         same = record { is = λ _ _. refl };
       })
@@ -108,7 +108,7 @@ module _ {S : Type 0} (table : S → Table) where
       record {
         none = λ _. none;
         step = subst (λ z. Steps (page_of table a) (page_of table z) (λ s. yes [] s)) (sym after)
-            (changes (λ s. s) refl refl refl refl
+            (changes (λ s. s) refl refl refl refl refl
             (λ l. ap (λ z. record (at l (page_of table a)) { inner = z }) (none ∙ sym (ap rest none))));
       }
   takes {T} a b tree (Some x) is after =
@@ -121,7 +121,7 @@ module _ {S : Type 0} (table : S → Table) where
         top = λ _. top.top;
         is = top.is;
         step = subst (λ z. Steps (page_of table a) (page_of table z) (λ s. yes [] (popped s))) (sym after)
-            (changes popped refl refl refl refl (λ _. refl));
+            (changes popped refl refl refl refl refl (λ _. refl));
       }
 
   -- the top item is popped, where there is one
@@ -129,7 +129,7 @@ module _ {S : Type 0} (table : S → Table) where
       Steps (page_of table a) (page_of table b) (λ s. yes [] (popped s))
   pops a b after =
       subst (λ z. Steps (page_of table a) (page_of table z) (λ s. yes [] (popped s))) (sym after)
-      (changes popped refl refl refl refl (λ _. refl))
+      (changes popped refl refl refl refl refl (λ _. refl))
 
   -- ---- kept
   kept_so : (s : Items) (h : Held Core) (hs : List (Held Core)) → s.inner ≡ h ∷ hs →
@@ -144,7 +144,7 @@ module _ {S : Type 0} (table : S → Table) where
   keeps a b h hs (Ok z) kept same room top =
       subst (λ v. KeepsTop (pg None a) (pg None v) h)
       (sym (kept ∙ ap (λ s. record a { items = s }) (kept_so a.items h hs top))) (record {
-        at_place = λ p. goes_quietly (keeping h) refl refl refl refl;
+        at_place = λ p. goes_quietly (keeping h) refl refl refl refl refl;
         same = record { is = λ _ _. refl };
       })
   keeps a b h hs (Err z) kept same room top =
@@ -168,7 +168,7 @@ module _ {S : Type 0} (table : S → Table) where
   returns a b before n (Ok z) is back same room =
       subst (λ v. Returns before (pg None a) (pg None v)) (sym (back ∙ ap (λ k. with_items (with_returned k) a) is))
       (record {
-        at_place = λ p. goes_quietly (returned before) refl refl refl refl;
+        at_place = λ p. goes_quietly (returned before) refl refl refl refl refl;
         same = record { is = λ _ _. refl };
       })
   returns a b before n (Err z) is back same room =

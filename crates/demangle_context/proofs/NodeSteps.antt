@@ -17,7 +17,7 @@ module _ {S : Type 0} (table : S → Table) where
       Ends was_told (page_of table a) (page_of table b)
   ends_node a b true quiet h =
       subst (λ z. Ends true (page_of table a) (page_of table z)) (sym h.others) (record {
-        at_place = λ p n. goes_on (closed ∷ []) n n refl (told_ends h.heard)
+        at_place = λ p n. goes_on (closed ∷ []) n n refl (told_ends h.heard) refl
             (record { faults = h.heard.faults; refusals = h.heard.refusals; fixed = refl });
         no_trouble = λ n. n;
         aside = λ _. refl;
@@ -30,7 +30,7 @@ module _ {S : Type 0} (table : S → Table) where
       })
   ends_node a b false quiet h =
       subst (λ z. Ends false (page_of table a) (page_of table z)) (sym h.others) (record {
-        at_place = λ p n. goes_on (closed ∷ []) n n refl (told_ends h.heard)
+        at_place = λ p n. goes_on (closed ∷ []) n n refl (told_ends h.heard) refl
             (record { faults = h.heard.faults; refusals = h.heard.refusals; fixed = refl });
         no_trouble = λ n. n;
         aside = λ _. refl;

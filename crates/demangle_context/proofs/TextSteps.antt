@@ -49,7 +49,7 @@ module _ {S : Type 0} (table : S → Table) where
       record {
         at_place = λ p. writes_all s refl refl room
             (sym (ap (λ (z : State Core). record z { level = p.level }) w.state))
-            (told_text s w.heard) (record {
+            (told_text s w.heard) w.last_char (record {
               faults = (same_counts a.seen b.seen s w.heard).0;
               refusals = (same_counts a.seen b.seen s w.heard).1;
               fixed = ap (fixed_of table) w.others;
@@ -107,7 +107,7 @@ module _ {S : Type 0} (table : S → Table) where
   space_there : (a : View S) → is_byte 32 (state_of a).last ≡ true → Steps (well a) (well a) spaced
   space_there a e =
       record {
-        at_place = λ p. goes_on [] refl refl (rw e refl) (told_nothing a.seen)
+        at_place = λ p. goes_on [] refl refl (rw e refl) (told_nothing a.seen) refl
             (record { faults = refl; refusals = refl; fixed = refl });
         same = record { is = λ _ _. refl };
       }

@@ -2,10 +2,10 @@
 use Rattle.std.proofs.Common.{◌≡◌, ℕ, ◌<◌, Bool, true, false, List, [], ◌∷◌, length, sym, ◌∙◌, ap, arith}
 use Rattle.std.proofs.Common.{Result, Ok, Err}
 use Rattle.demangle_printing.specs.State.{has_room, less_room}
-use Rattle.demangle_meets.specs.Seen.{Seen, piece}
+use Rattle.demangle_meets.specs.Seen.{Seen, piece, LastChar}
 use Rattle.demangle_context.specs.Hears.{Hears, HearsText}
 use Rattle.demangle_context.specs.View.{View, state_of}
-use Rattle.demangle_context.specs.Calls.{LastChar, Writing}
+use Rattle.demangle_context.specs.Calls.{Writing}
 use Rattle.demangle_context.specs.declared.error.DemangleError.{DemangleError}
 use Rattle.demangle_context.specs.declared.error.DemangleError.TheVariants as error
 use Rattle.demangle_context.proofs.Characters.{last_in_text}

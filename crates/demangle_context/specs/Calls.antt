@@ -1,10 +1,9 @@
 -- What the calls of a context change that write, or that tell the listener of nodes; and when there is room for items.
-use Rattle.std.specs.Prelude.{◌≡◌, ℕ, ◌≤◌, ◌↔◌, true, false, codes, List, [], ◌∷◌, ◌++◌, length, Option, Some}
+use Rattle.std.specs.Prelude.{◌≡◌, ℕ, ◌≤◌, ◌↔◌, true, false, codes, List, [], ◌∷◌, length, Option, Some}
 use Rattle.std.specs.Prelude.{Result, Ok, Err, OnOk, IfErr}
-use Rattle.std.specs.Char.{encode_utf8}
 use Rattle.demangle_printing.specs.State.{has_room, less_room, wrote, is_byte}
 use Rattle.demangle_printing.specs.Laws.{IsReady}
-use Rattle.demangle_meets.specs.Seen.{Call}
+use Rattle.demangle_meets.specs.Seen.{Call, LastChar}
 use Rattle.demangle_context.specs.Hears.{Hears, HearsText, Fails, LacksMemory}
 use Rattle.demangle_context.specs.Room.{most_items}
 use Rattle.demangle_context.specs.View.{View, state_of}
@@ -12,16 +11,6 @@ use Rattle.demangle_context.specs.declared.error.DemangleError.{DemangleError}
 use Rattle.demangle_context.specs.declared.error.DemangleError.TheVariants as error
 
 -- ---- texts
--- The text ends in this character.
-pub record EndsIn (s : List ℕ) (c : ℕ) : Type 0 where
-  pub front : List ℕ
-  pub is : s ≡ front ++ encode_utf8 c
-
--- The last character that was written is now that of the text, where it isn't empty.
-abbrev pub LastChar : List ℕ → (old new : Option ℕ) → Type 0
-LastChar [] old new = new ≡ old
-LastChar (b ∷ bs) old new = (c : ℕ) × (new ≡ Some c) × EndsIn (b ∷ bs) c
-
 -- The text was written: the listener heard it in one piece, and the room is shorter.
 pub record Writes {S : Type 0} (a b : View S) (s : List ℕ) : Type 0 where
   pub state : state_of b ≡ wrote s (state_of a)

@@ -28,6 +28,7 @@ module _ {S : Type 0} (table : S → Table) where
         kept = v.items.kept;
         aside = v.items.aside;
         last = last_byte v.last_char;
+        last_char = v.last_char;
         source = v.source;
         flags = v.flags;
         room = v.room;

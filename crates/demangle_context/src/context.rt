@@ -4,13 +4,13 @@ ghost use Rattle.std.specs.Prelude.{◌≡◌, ◌+◌, ◌<◌, ◌↔◌, true
 ghost use Rattle.std.specs.Prelude.{OnErr, IsSomeAnd, length, option_map};
 ghost use Rattle.demangle_printing.specs.State.{has_room, less_room, is_own_item, is_byte};
 ghost use Rattle.demangle_context.specs.Kinds.{kind_of};
-ghost use Rattle.demangle_meets.specs.Seen.{begins, ends};
+ghost use Rattle.demangle_meets.specs.Seen.{EndsIn, begins, ends};
 ghost use Rattle.demangle_context.specs.Items.{HasRoom, one_deeper, one_less_deep, item_at, with_pushed};
 ghost use Rattle.demangle_context.specs.Items.{with_pushed_at, without_top, without_top_if, with_top_kept};
 ghost use Rattle.demangle_context.specs.Items.{with_returned, set_aside, no_items, brought_back};
 ghost use Rattle.demangle_context.specs.ItemsOf.{items_of};
 ghost use Rattle.demangle_context.specs.View.{view, first_view, with_items, state_of};
-ghost use Rattle.demangle_context.specs.Calls.{EndsIn, Writing, Spacing, Announces, IsReadyToHold};
+ghost use Rattle.demangle_context.specs.Calls.{Writing, Spacing, Announces, IsReadyToHold};
 
 use crate::error::DemangleError;
 use crate::inner_items::{InnerBarrier, InnerItems, InnerNode};

@@ -91,7 +91,7 @@ module _ {p : Place} {a m n o : Page} {i : Kind} {v : Bool} {f : Act Core} (d : 
   body = then_act (d.step.at_place p) d.step.same q (λ _. tt) (λ r. r)
 
   -- where the node begins, the state is as before
-  begun : a.trouble ≡ None → Whole a.seen m.seen (yes (opened i ∷ []) (at p.level a)) (at p.level m)
+  begun : a.trouble ≡ None → Whole a m (yes (opened i ∷ []) (at p.level a)) (at p.level m)
   begun z = (d.step.at_place p).done z (d.no_trouble z)
 
   same_state : a.trouble ≡ None → at p.level m ≡ at p.level a

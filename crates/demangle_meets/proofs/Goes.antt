@@ -57,7 +57,7 @@ goes_then {p} {a} {m} {b} {g} {h} {S} {T} {V} d q left right =
     in
     let
     done_by : (x : Option Trouble) → m.trouble ≡ x → a.trouble ≡ None → b.trouble ≡ None →
-    Whole a.seen b.seen (bind (g (at p.level a)) h) (at p.level b) =
+    Whole a b (bind (g (at p.level a)) h) (at p.level b) =
     elim [
       | None ↦ λ e n z. whole_then h (d.done n e) (q.done e z)
       | Some t ↦ λ e n z. no_trouble t b.trouble z (q.stays t e).1
@@ -124,7 +124,7 @@ goes_as {p} {a} {b} {g} {h} {S} {T} e r d =
 pub goes_nowhere : {p : Place} {a : Page} {S : Type 0} → Goes p a a (λ s. yes [] s) S
 goes_nowhere {p} {a} =
     record {
-      done = λ n z. record { all = []; is = refl; told = told_nothing a.seen };
+      done = λ n z. record { all = []; is = refl; told = told_nothing a.seen; last = refl };
       stopped = λ f n z. no_trouble (fault f) a.trouble n z;
       cut = λ c n z. no_trouble (lost c) a.trouble n z;
       fits = λ n z v. no_trouble (lost full) a.trouble n z;

@@ -88,15 +88,16 @@ tells_in_order p a b j sc d n = (whole, stopped)
     bracketed : AreBracketed (deeper p j sc (at p.level a))
     bracketed = print_bracketed (world_of p.refers) p.left j sc (at p.level a)
 
-    whole : b.trouble ≡ None → WasTold a.seen b.seen (deeper p j sc (at p.level a)) (at p.level b)
+    whole : b.trouble ≡ None → WasTold a b (deeper p j sc (at p.level a)) (at p.level b)
     whole z =
         let
-        y : Whole a.seen b.seen (deeper p j sc (at p.level a)) (at p.level b) = goes.done n z
+        y : Whole a b (deeper p j sc (at p.level a)) (at p.level b) = goes.done n z
         in
         record {
           all = y.all;
           is = y.is;
           told = y.told;
+          last = y.last;
           are_closed = closed_of (deeper p j sc (at p.level a)) y.all (at p.level b) y.is bracketed;
         }
 

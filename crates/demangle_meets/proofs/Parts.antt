@@ -38,6 +38,7 @@ goes_deeper {a} {b} {g} r left level d =
         is = ap (λ y. bind y back) (d.done n z).is
             ∙ ap (λ m. yes m (at level b)) (append-nil (d.done n z).all);
         told = (d.done n z).told;
+        last = (d.done n z).last;
       };
       stopped = λ f n z. stopped_before (g (at (level + 1) a)) back (d.stopped f n z) (told_nothing b.seen);
       cut = λ c n z. cut_before (g (at (level + 1) a)) back (d.cut c n z) (told_nothing b.seen);

@@ -4,12 +4,13 @@ use Rattle.std.proofs.Common.{Option, Some, None, refl, sym, ◌∙◌, ap, subs
 use Rattle.demangle_core.specs.Core.{Core}
 use Rattle.demangle_printing.specs.State.{Event, byte, Fault, TooLong, State, Answer, yes, no, written, wrote}
 use Rattle.demangle_printing.specs.State.{has_room}
-use Rattle.demangle_meets.specs.Seen.{Told}
+use Rattle.demangle_printing.specs.Outcome.{text_of}
+use Rattle.demangle_meets.specs.Seen.{Told, LastChar}
 use Rattle.demangle_meets.specs.Page.{Page, Trouble, fault, lost, Loss, failed, refused, full, at}
 use Rattle.demangle_meets.specs.Place.{Place}
 use Rattle.demangle_meets.specs.Goes.{events, Rose, Counts, Goes}
 use Rattle.demangle_meets.specs.Calls.{Steps}
-use Rattle.demangle_meets.proofs.Heard.{told_nothing}
+use Rattle.demangle_meets.proofs.Heard.{text_bytes, told_nothing}
 use Rattle.demangle_meets.proofs.Told.{stand_none}
 use Rattle.demangle_meets.proofs.Goes.{no_trouble, counts_same}
 
@@ -39,11 +40,11 @@ goes_stopped {p} {a} {b} t e told same q =
 
 -- All of it was done.
 pub goes_on : {p : Place} {a b : Page} {g : State Core → Answer Core} {S : Type 0} (m : List Event) →
-    a.trouble ≡ None → b.trouble ≡ None → g (at p.level a) ≡ yes m (at p.level b) → Told a.seen b.seen m → Quiet a b →
-    Goes p a b g S
-goes_on {p} {a} {b} m n o e told q =
+    a.trouble ≡ None → b.trouble ≡ None → g (at p.level a) ≡ yes m (at p.level b) → Told a.seen b.seen m →
+    LastChar (text_of m) a.last_char b.last_char → Quiet a b → Goes p a b g S
+goes_on {p} {a} {b} m n o e told last q =
     record {
-      done = λ _ _. record { all = m; is = e; told = told };
+      done = λ _ _. record { all = m; is = e; told = told; last = last };
       stopped = λ f _ z. no_trouble (fault f) b.trouble o z;
       cut = λ c _ z. no_trouble (lost c) b.trouble o z;
       fits = λ _ z v. no_trouble (lost full) b.trouble o z;
@@ -55,9 +56,9 @@ goes_on {p} {a} {b} m n o e told q =
 
 -- Nothing is told, and the state is changed so.
 pub goes_quietly : {p : Place} {a b : Page} {S : Type 0} (to : State Core → State Core) → b.seen ≡ a.seen →
-    b.fixed ≡ a.fixed → b.trouble ≡ a.trouble → to (at p.level a) ≡ at p.level b →
+    b.last_char ≡ a.last_char → b.fixed ≡ a.fixed → b.trouble ≡ a.trouble → to (at p.level a) ≡ at p.level b →
     Goes p a b (λ s. yes [] (to s)) S
-goes_quietly {p} {a} {b} {S} to seen fixed same e = by a.trouble refl
+goes_quietly {p} {a} {b} {S} to seen last fixed same e = by a.trouble refl
   where
     told : Told a.seen b.seen []
     told = subst (λ z. Told a.seen z []) (sym seen) (told_nothing a.seen)
@@ -66,15 +67,15 @@ goes_quietly {p} {a} {b} {S} to seen fixed same e = by a.trouble refl
     quiet = record { faults = ap (λ z. z.faults) seen; refusals = ap (λ z. z.refusals) seen; fixed = fixed }
 
     by : (o : Option Trouble) → a.trouble ≡ o → Goes p a b (λ s. yes [] (to s)) S
-    by None n = goes_on [] n (same ∙ n) (ap (yes []) e) told quiet
+    by None n = goes_on [] n (same ∙ n) (ap (yes []) e) told last quiet
     by (Some t) n = goes_stopped t n told same quiet
 
-pub changes : {a b : Page} (to : State Core → State Core) → b.seen ≡ a.seen → b.fixed ≡ a.fixed →
-    b.trouble ≡ a.trouble → b.aside ≡ a.aside → ((l : ℕ) → to (at l a) ≡ at l b) →
+pub changes : {a b : Page} (to : State Core → State Core) → b.seen ≡ a.seen → b.last_char ≡ a.last_char →
+    b.fixed ≡ a.fixed → b.trouble ≡ a.trouble → b.aside ≡ a.aside → ((l : ℕ) → to (at l a) ≡ at l b) →
     Steps a b (λ s. yes [] (to s))
-changes to seen fixed same aside e =
+changes to seen last fixed same aside e =
     record {
-      at_place = λ p. goes_quietly to seen fixed same (e p.level);
+      at_place = λ p. goes_quietly to seen last fixed same (e p.level);
       same = record { is = λ _ _. aside };
     }
 
@@ -169,9 +170,11 @@ goes_full n o told h q = goes_lost full n o told (λ _. h) q.fixed
 -- ---- texts
 pub writes_all : {p : Place} {a b : Page} {S : Type 0} (bs : List ℕ) → a.trouble ≡ None → b.trouble ≡ None →
     has_room a.room (length bs) ≡ true → wrote bs (at p.level a) ≡ at p.level b → Told a.seen b.seen (map byte bs) →
-    Quiet a b → Goes p a b (written bs) S
+    LastChar bs a.last_char b.last_char → Quiet a b → Goes p a b (written bs) S
 unfolding written
-writes_all bs n o h e told q = goes_on (map byte bs) n o (rw h (ap (yes (map byte bs)) e)) told q
+writes_all {a = a} {b = b} bs n o h e told last q =
+    goes_on (map byte bs) n o (rw h (ap (yes (map byte bs)) e)) told
+    (subst (λ z. LastChar z a.last_char b.last_char) (sym (text_bytes bs)) last) q
 
 pub writes_too_long : {p : Place} {a b : Page} {S : Type 0} (bs : List ℕ) → a.trouble ≡ None →
     b.trouble ≡ Some (fault TooLong) → has_room a.room (length bs) ≡ false → Told a.seen b.seen [] → Quiet a b →

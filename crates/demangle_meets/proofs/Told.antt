@@ -1,13 +1,16 @@
 -- Answers one after the other, and what a listener was told of them.
 use Rattle.std.proofs.Common.{◌≡◌, ℕ, suc, ◌≤◌, List, [], ◌∷◌, ◌++◌, Option, Some, None, refl, sym, ◌∙◌}
 use Rattle.std.proofs.Common.{ap, subst, arith}
-use Rattle.std.proofs.lemmas.List.{append_assoc}
+use Rattle.std.specs.Char.{encode_utf8}
+use Rattle.std.proofs.lemmas.List.{append_assoc, append-nil}
 use Rattle.demangle_core.specs.Core.{Core}
 use Rattle.demangle_printing.specs.State.{Event, byte, opened, closed, Fault, State, Answer, yes, no, after, bind}
 use Rattle.demangle_printing.specs.Laws.{open_behind, closes, After}
-use Rattle.demangle_meets.specs.Seen.{Seen, Told}
+use Rattle.demangle_printing.specs.Outcome.{text_of}
+use Rattle.demangle_meets.specs.Seen.{Seen, Told, LastChar}
+use Rattle.demangle_meets.specs.Page.{Page}
 use Rattle.demangle_meets.specs.Goes.{Whole, events, ends, StandOpen, Stopped, Cut}
-use Rattle.demangle_meets.proofs.Heard.{told_then, told_silent}
+use Rattle.demangle_meets.proofs.Heard.{text_append, told_then, told_silent}
 
 -- ---- answers
 pub after_after : {X : Type 0} (m n : List Event) (x : Answer X) → after m (after n x) ≡ after (m ++ n) x
@@ -23,22 +26,37 @@ pub after_bind : {X : Type 0} (m : List Event) (x : Answer X) (go : State X → 
 after_bind m (yes k s) go = after_after m k (go s)
 after_bind m (no k f) go = refl
 
+-- ---- the last character
+last_then : (s t : List ℕ) (a m b : Option ℕ) → LastChar s a m → LastChar t m b → LastChar (s ++ t) a b
+last_then s [] a m b p q = subst (λ z. LastChar z a b) (sym (append-nil s)) (subst (LastChar s a) (sym q) p)
+last_then [] (x ∷ xs) a m b p q = q
+last_then (y ∷ ys) (x ∷ xs) a m b p q = (
+  q.0,
+  q.1,
+  record {
+    front = (y ∷ ys) ++ q.2.front;
+    is = ap (λ z. (y ∷ ys) ++ z) q.2.is ∙ sym (append_assoc (y ∷ ys) q.2.front (encode_utf8 q.0));
+  },
+)
+
 -- What holds behind an answer holds of the state that it leaves.
-pub whole_after : {old new : Seen} (P : State Core → Type 0) (x : Answer Core) (s : State Core) → Whole old new x s →
+pub whole_after : {a b : Page} (P : State Core → Type 0) (x : Answer Core) (s : State Core) → Whole a b x s →
     After P x → P s
 whole_after P x s w p = subst (After P) w.is p
 
-pub whole_then : {old mid new : Seen} {x : Answer Core} {s t : State Core} (go : State Core → Answer Core) →
-    Whole old mid x s → Whole mid new (go s) t → Whole old new (bind x go) t
-whole_then go p q =
+pub whole_then : {a m b : Page} {x : Answer Core} {s t : State Core} (go : State Core → Answer Core) →
+    Whole a m x s → Whole m b (go s) t → Whole a b (bind x go) t
+whole_then {a} {m} {b} go p q =
     record {
       all = p.all ++ q.all;
       is = ap (λ y. bind y go) p.is ∙ ap (after p.all) q.is;
       told = told_then p.told q.told;
+      last = subst (λ z. LastChar z a.last_char b.last_char) (sym (text_append p.all q.all))
+          (last_then (text_of p.all) (text_of q.all) a.last_char m.last_char b.last_char p.last q.last);
     }
 
-pub whole_as : {old new : Seen} {x y : Answer Core} {s : State Core} → y ≡ x → Whole old new x s → Whole old new y s
-whole_as e w = record { all = w.all; is = e ∙ w.is; told = w.told }
+pub whole_as : {a b : Page} {x y : Answer Core} {s : State Core} → y ≡ x → Whole a b x s → Whole a b y s
+whole_as e w = record { all = w.all; is = e ∙ w.is; told = w.told; last = w.last }
 
 -- ---- events
 pub events_after : {X : Type 0} (m : List Event) (x : Answer X) → events (after m x) ≡ m ++ events x

@@ -2,17 +2,19 @@
 use Rattle.std.specs.Prelude.{◌≡◌, ℕ, zero, suc, ◌+◌, ◌≤◌, ◌<◌, ◌⊎◌, List, [], ◌∷◌, ◌++◌, Option, Some, None}
 use Rattle.demangle_core.specs.Core.{Core}
 use Rattle.demangle_printing.specs.State.{Event, closed, Fault, State, Answer, yes, no}
+use Rattle.demangle_printing.specs.Outcome.{text_of}
 use Rattle.demangle_printing.specs.Laws.{open_behind}
-use Rattle.demangle_meets.specs.Seen.{Seen, Told}
+use Rattle.demangle_meets.specs.Seen.{Seen, Told, LastChar}
 use Rattle.demangle_meets.specs.Page.{Page, Trouble, fault, lost, Loss, failed, refused, full, at}
 use Rattle.demangle_meets.specs.Place.{Place}
 
 -- ---- what a listener was told
--- All of it, and this is the state that is left.
-pub record Whole (old new : Seen) (x : Answer Core) (s : State Core) : Type 0 where
+-- All of it, and this is the state that is left, with the last character.
+pub record Whole (a b : Page) (x : Answer Core) (s : State Core) : Type 0 where
   pub all : List Event
   pub is : x ≡ yes all s
-  pub told : Told old new all
+  pub told : Told a.seen b.seen all
+  pub last : LastChar (text_of all) a.last_char b.last_char
 
 -- so many nodes end
 abbrev pub ends : ℕ → List Event
@@ -66,7 +68,7 @@ pub record Counts (why : Loss) (old new : ℕ) (before now : Option Trouble) : T
 -- level that isn't above those of all items (`ready` says that it is above them wherever that is done), or where there
 -- are more levels than the stacks have room for.
 pub record Goes (p : Place) (a b : Page) (go : State Core → Answer Core) (ready : Type 0) : Type 0 where
-  pub done : a.trouble ≡ None → b.trouble ≡ None → Whole a.seen b.seen (go (at p.level a)) (at p.level b)
+  pub done : a.trouble ≡ None → b.trouble ≡ None → Whole a b (go (at p.level a)) (at p.level b)
   pub stopped : (f : Fault) → a.trouble ≡ None → b.trouble ≡ Some (fault f) →
       Stopped a.seen b.seen (go (at p.level a)) f
   pub cut : (c : Loss) → a.trouble ≡ None → b.trouble ≡ Some (lost c) → Cut a.seen b.seen (go (at p.level a))

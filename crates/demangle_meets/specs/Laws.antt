@@ -6,7 +6,7 @@ use Rattle.demangle_printing.specs.Outcome.{text_of}
 use Rattle.demangle_printing.specs.Scope.{Scope}
 use Rattle.demangle_printing.specs.Act.{Job, done, call}
 use Rattle.demangle_printing.specs.Laws.{AreClosed, open_behind, IsFitting, IsReady, Leaves}
-use Rattle.demangle_meets.specs.Seen.{Call, Seen, events_of, HaveText, Told}
+use Rattle.demangle_meets.specs.Seen.{Call, Seen, events_of, HaveText, Told, LastChar}
 use Rattle.demangle_meets.specs.Page.{Page, fault, lost, Loss, failed, refused, full, at}
 use Rattle.demangle_meets.specs.Goes.{ends, Rose}
 use Rattle.demangle_meets.specs.Place.{Place}
@@ -88,11 +88,12 @@ StaysFixed = (p : Place) (a b : Page) (j : Job Core) (sc : Scope Core) → Meets
     b.fixed ≡ a.fixed
 
 -- ---- what was told
--- All of it was told, and each node that begins ends.
-pub record WasTold (old new : Seen) (x : Answer Core) (s : State Core) : Type 0 where
+-- All of it was told, each node that begins ends, and the last character is that of the text.
+pub record WasTold (a b : Page) (x : Answer Core) (s : State Core) : Type 0 where
   pub all : List Event
   pub is : x ≡ yes all s
-  pub told : Told old new all
+  pub told : Told a.seen b.seen all
+  pub last : LastChar (text_of all) a.last_char b.last_char
   pub are_closed : AreClosed all
 
 -- The events before the fault, and then ends of nodes, no more than stand open there.
@@ -108,7 +109,7 @@ pub record WasStopped (old new : Seen) (x : Answer Core) (f : Fault) : Type 0 wh
 abbrev pub TellsInOrder : Type 0
 TellsInOrder = (p : Place) (a b : Page) (j : Job Core) (sc : Scope Core) → Meets p a b (call j sc done) →
     a.trouble ≡ None →
-    (b.trouble ≡ None → WasTold a.seen b.seen (deeper p j sc (at p.level a)) (at p.level b))
+    (b.trouble ≡ None → WasTold a b (deeper p j sc (at p.level a)) (at p.level b))
     × ((f : Fault) → b.trouble ≡ Some (fault f) → WasStopped a.seen b.seen (deeper p j sc (at p.level a)) f)
 
 -- ---- why it stopped

@@ -1,5 +1,6 @@
 -- What contracts see of a context of printing: the state without its level, which lines hold by value; the items that
--- are set aside; what is seen of the listener; and the first trouble.
+-- are set aside; the last character, of which the state knows the last byte; what is seen of the listener; and the
+-- first trouble.
 use Rattle.std.specs.Prelude.{ℕ, List, Option}
 use Rattle.demangle_core.specs.Core.{Core}
 use Rattle.demangle_printing.specs.State.{Fault, Held, Flags, State}
@@ -31,6 +32,7 @@ pub record Page : Type 0 where
   pub kept : List (Held Core)
   pub aside : List (Held Core)
   pub last : Option ℕ
+  pub last_char : Option ℕ
   pub source : Option (List ℕ)
   pub flags : Flags
   pub room : Option ℕ

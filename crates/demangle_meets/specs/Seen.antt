@@ -1,5 +1,6 @@
--- What contracts see of a listener, and that it was told events.
+-- What contracts see of a listener, that it was told events, and which character was written last.
 use Rattle.std.specs.Prelude.{◌≡◌, ℕ, ◌<◌, List, [], ◌∷◌, ◌++◌, map, length, Option, Some, None}
+use Rattle.std.specs.Char.{encode_utf8}
 use Rattle.demangle_printing.specs.State.{Kind, Event, byte, opened, closed}
 use Rattle.demangle_printing.specs.Outcome.{text_of}
 
@@ -43,3 +44,14 @@ pub record Told (old new : Seen) (m : List Event) : Type 0 where
   pub have_text : HaveText calls
   pub text : Grows old.text new.text (text_of m)
   pub heard : Grows old.calls new.calls calls
+
+-- ---- the last character
+-- The text ends in this character.
+pub record EndsIn (s : List ℕ) (c : ℕ) : Type 0 where
+  pub front : List ℕ
+  pub is : s ≡ front ++ encode_utf8 c
+
+-- The last character that was written is now that of the text, where it isn't empty.
+abbrev pub LastChar : List ℕ → (old new : Option ℕ) → Type 0
+LastChar [] old new = new ≡ old
+LastChar (b ∷ bs) old new = (c : ℕ) × (new ≡ Some c) × EndsIn (b ∷ bs) c

@@ -66,6 +66,7 @@ module _ {a b : Page} {go : State Core → Answer Core} {ready : Type 0} {r : Re
             all = y.all;
             is = y.is;
             told = y.told;
+            last = y.last;
             are_closed = subst AreBracketed y.is tidy.brackets;
           };
           items = record {

@@ -66,11 +66,11 @@ printed_leaf f x s = act (deeper (place_in f)) (leaf_act (world_of f.refers) (Ok
 
 -- ---- how a call ends, where `x` is what the definition says
 -- All was printed: the listener was told all events, in which each node that begins ends, and the context is as the
--- definition leaves it. The items that are kept and those that are set aside are as before, and of the inner items
--- some are left, in their order. Where no two items had one level, and none a level above the context's, it is so
--- again.
+-- definition leaves it, with the last character of the text. The items that are kept and those that are set aside are
+-- as before, and of the inner items some are left, in their order. Where no two items had one level, and none a level
+-- above the context's, it is so again.
 pub record Finishes (a b : Page) (x : Answer Core) : Type 0 where
-  pub told : WasTold a.seen b.seen x (at a.fixed.level b)
+  pub told : WasTold a b x (at a.fixed.level b)
   pub items : LeavesItems (place_in a.fixed) a b
   pub fitting : IsFitting a.aside (state a) → IsFitting b.aside (at a.fixed.level b)
 

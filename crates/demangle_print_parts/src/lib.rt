@@ -32,5 +32,5 @@ pub use lists::{expression_list, type_list};
 pub use numbers::{optional_ordinal, ordinal};
 pub use operators::operator_name;
 pub use qualifiers::{explicit_object_parameter, is_qualified, ref_qualifier, reference_mark};
-pub use texts::{input_text, number, standard_builtin_type, unsigned, well_known_component};
+pub use texts::{number, standard_builtin_type, unsigned, well_known_component};
 pub use words::simple_operator_name;

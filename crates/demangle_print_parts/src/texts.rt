@@ -1,21 +1,18 @@
-//! Words, numbers, and bytes of the input.
+//! Words and numbers.
 
 ghost use Rattle.std.specs.Prelude.{pos};
 ghost use Rattle.std.specs.Fmt.{signed_decimal};
 ghost use Rattle.demangle_core.specs.Core.{Core};
 ghost use Rattle.demangle_leaf_nodes.specs.TreeLeaves.{tree_of_standard_builtin_type, tree_of_well_known_component};
-ghost use Rattle.demangle_grammar.specs.Sound.{bytes_of};
-ghost use Rattle.demangle_printing.specs.Reader.{input_text};
 ghost use Rattle.demangle_printing.specs.Scope.{Scope};
 ghost use Rattle.demangle_printing.specs.State.{written};
 ghost use Rattle.demangle_meets.specs.Calls.{Steps};
-ghost use Rattle.demangle_meets.specs.Meets.{Meets, Prints};
+ghost use Rattle.demangle_meets.specs.Meets.{Prints};
 ghost use Rattle.demangle_print_below.specs.PageOf.{page};
 
-use crate::bytes::{bytes_between, text_of};
 use demangle_decimal::Decimal;
 use demangle_print_below::Below;
-use demangle_scope::{DemangleContext, DemangleWrite, PrintFault};
+use demangle_scope::{DemangleContext, DemangleWrite};
 use demangle_vocab::{StandardBuiltinType, WellKnownComponent};
 
 /// A number, in decimal.
@@ -32,22 +29,6 @@ pub fn unsigned<'subs, W: DemangleWrite>(n: usize, ctx: &mut DemangleContext<'su
 {
     let mut room = Decimal::new();
     ctx.text(room.unsigned(n as u128));
-}
-
-/// Bytes of the input, which must be a text.
-pub fn input_text<'subs, W: DemangleWrite, B: Below<'subs, W>>(
-    below: B,
-    start: usize,
-    end: usize,
-    ctx: &mut DemangleContext<'subs, '_, W>,
-)
-    ensures { Meets (B.at below) (page W.seen ctx.old) (page W.seen ctx.new)
-        (input_text (bytes_of (B.at below).refers.input start end)) }
-{
-    match text_of(bytes_between(below.input(), start, end)) {
-        Some(text) => ctx.text(text),
-        None => ctx.fail(PrintFault::NotUtf8),
-    }
 }
 
 /// A word of the table of builtin types.
