@@ -9,11 +9,11 @@ use Rattle.cpp_demangle.proofs.symbol.«Symbol+ref+slice+u8».with_tail_and_opti
 pub invariant_of-result : goal.invariant_of-result
 invariant_of-result c = record { is = symbol_at_front c.args.options.now c.in-Ok.ensures }
 
-pub returns-in-Ok-clause-read : goal.returns-in-Ok-clause-read
-returns-in-Ok-clause-read c =
+pub returns-in-Ok : goal.returns-in-Ok
+returns-in-Ok c =
     subst (λ left. IsRead c.args.options.now c.args.input.now left
     (contents c.args.input.now (table_of c.in-Ok.substitutions) (tree_of_mangled_name c.in-Ok.parsed)))
     (sym c.as_slice.ensures) (read_at_front c.in-Ok.ensures)
 
-pub returns-in-Err-clause-read : goal.returns-in-Err-clause-read
-returns-in-Err-clause-read c = refused_front c.args.options.now c.args.input.now c.in-Err.error c.in-Err.ensures
+pub returns-in-Err : goal.returns-in-Err
+returns-in-Err c = refused_front c.args.options.now c.args.input.now c.in-Err.error c.in-Err.ensures
