@@ -188,7 +188,7 @@ impl<'a> Symbol<&'a [u8]> {
     /// The symbol of the name at the front of the input, read under the options by default, and what is left behind
     /// it. Errors as those of `with_tail_and_options`.
     pub fn with_tail(alloc: Global, input: &'a [u8]) -> Result<(BorrowedSymbol<'a>, &'a [u8])>
-        ensures read { MatchResult result (λ x. IsRead 96 input.entry.now x.1.now (contents_of x.0))
+        ensures { MatchResult result (λ x. IsRead 96 input.entry.now x.1.now (contents_of x.0))
             (IsRefused (reading 96 input.entry.now)) }
     {
         Symbol::with_tail_and_options(alloc, input, &ParseOptions::default())
@@ -202,7 +202,7 @@ impl<'a> Symbol<&'a [u8]> {
         input: &'a [u8],
         options: &ParseOptions,
     ) -> Result<(BorrowedSymbol<'a>, &'a [u8])>
-        ensures read { MatchResult result (λ x. IsRead options.now input.entry.now x.1.now (contents_of x.0))
+        ensures { MatchResult result (λ x. IsRead options.now input.entry.now x.1.now (contents_of x.0))
             (IsRefused (reading options.now input.entry.now)) }
     {
         match read_front(alloc, input, options) {
