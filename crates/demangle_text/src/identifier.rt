@@ -3,7 +3,6 @@
 ghost use Rattle.std.specs.Prelude.{◌≡◌, ◌+◌, ◌≤◌, length, drop};
 ghost use Rattle.demangle_text.specs.Bytes.{span};
 ghost use Rattle.demangle_text.specs.Characters.{is_identifier_byte, sequence_len, identifier_len};
-ghost use Rattle.demangle_text.specs.Characters.{AreIdentifierChars};
 
 /// Whether an ASCII byte is a character of an identifier. Most are small letters, so these are tried first.
 fn is_identifier_byte(byte: u8) -> bool
@@ -76,12 +75,4 @@ pub fn identifier_len(bytes: &[u8]) -> usize
         count += len;
     }
     count
-}
-
-/// The bytes of an identifier as text. They aren't looked at again: their characters are UTF-8.
-pub fn identifier_str(bytes: &[u8]) -> &str
-    requires { AreIdentifierChars bytes.now }
-    ensures { result.now ≡ bytes.now }
-{
-    unsafe { str::from_utf8_unchecked(bytes) }
 }

@@ -13,7 +13,7 @@ mod tests;
 mod word;
 
 pub use error::{Error, Result};
-pub use identifier::{identifier_len, identifier_str};
+pub use identifier::identifier_len;
 pub use index_str::IndexStr;
 pub use laws::{
     chars_are_text, equal_is_same, run_begins, run_is_chars, run_is_inside, run_is_longest,
