@@ -6,7 +6,6 @@ use Rattle.std.specs.declared.vec.Vec.{Vec}
 use Rattle.std.specs.declared.alloc.Global.{Global}
 use Rattle.demangle_text.specs.Kind.{kind, ends}
 use Rattle.demangle_text.specs.Spot.{spot}
-use Rattle.demangle_text.specs.Word.{word_at}
 use Rattle.demangle_text.specs.declared.index_str.IndexStr.{IndexStr}
 use Rattle.demangle_text.specs.declared.error.Error.{Error}
 use Rattle.demangle_text.specs.declared.error.Error.TheVariants.{OutOfMemory}
@@ -37,13 +36,6 @@ Keeps held answer mark (Err e) old new = (answer ≡ Err e) × (new ≡ cut mark
 abbrev pub Inserts : {X : Type 0} → Result ℕ X → ℕ × ℕ → Result ℕ Error → (old new : Table) → Type 0
 Inserts answer mark (Ok n) old new = (answer ≡ Ok n) × (new ≡ old)
 Inserts answer mark (Err e) old new = (e ≡ OutOfMemory) × ((x : _) × (answer ≡ Err x)) × (new ≡ cut mark old)
-
--- what was read, and behind it the word that closes it
-abbrev pub Closes : {X : Type 0} → List ℕ → Answer X → ℕ × ℕ → Answer X → (old new : Table) → Type 0
-Closes word answer mark (Ok x) old new =
-    (new ≡ old) × ((rest : IndexStr) × (answer ≡ Ok (x.0, rest)) × (word_at word (spot rest) ≡ Ok (spot x.1)))
-Closes word answer mark (Err e) old new = (new ≡ cut mark old) × ((answer ≡ Err e)
-    ⊎ ((x : _) × (rest : IndexStr) × (answer ≡ Ok (x, rest)) × (word_at word (spot rest) ≡ Err (kind e))))
 
 -- a value in a box
 abbrev pub Boxes : {X : Type 0} → X → ℕ × ℕ → Result (Box X Global) Error → (old new : Table) → Type 0

@@ -4,12 +4,12 @@
 //! lists are cut back to it.
 
 ghost use Rattle.demangle_table.specs.TableOf.{table_of};
-ghost use Rattle.demangle_answers.specs.Held.{Passes, Restores, Keeps, Inserts, Closes, Boxes, BoxesAnswer, MayMiss};
+ghost use Rattle.demangle_answers.specs.Held.{Passes, Restores, Keeps, Inserts, Boxes, BoxesAnswer, MayMiss};
 ghost use Rattle.demangle_answers.specs.Held.{Begins, Grows, Lengthens, LooksBehind};
 
 use demangle_discard::Discard;
 use demangle_table::SubstitutionTable;
-use demangle_text::{Error, IndexStr, Result, consume};
+use demangle_text::{Error, IndexStr, Result};
 use std::alloc::Global;
 
 /// The answer, with a failure to read the bytes inside of it. Any other failure ends the whole reading, and is the
@@ -79,32 +79,6 @@ pub fn inserted<X: Discard>(
             component.discard();
             subs.cut_back(mark);
             Err(Error::OutOfMemory)
-        }
-    }
-}
-
-/// What was read, and the rest behind the word that closes it. Where the word is missing, what was read is dropped,
-/// and for each failure the table is cut back.
-pub fn closed<'b, X: Discard>(
-    subs: &mut SubstitutionTable,
-    mark: (usize, usize),
-    word: &[u8],
-    answer: Result<(X, IndexStr<'b>)>,
-) -> Result<(X, IndexStr<'b>)>
-    ensures { Closes word.now answer.entry mark result (table_of subs.old) (table_of subs.new) }
-{
-    match answer {
-        Ok((x, rest)) => match consume(word, rest) {
-            Ok(rest) => Ok((x, rest)),
-            Err(error) => {
-                x.discard();
-                subs.cut_back(mark);
-                Err(error)
-            }
-        },
-        Err(error) => {
-            subs.cut_back(mark);
-            Err(error)
         }
     }
 }

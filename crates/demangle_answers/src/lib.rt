@@ -12,7 +12,7 @@ pub use components::{
 };
 pub use demangle_discard::Discard;
 pub use held::{
-    begun, boxed, closed, grown, in_box, kept, lengthened, looked_behind, may_miss, passed,
+    begun, boxed, grown, in_box, kept, lengthened, looked_behind, may_miss, passed,
     restored,
 };
 pub use next::{

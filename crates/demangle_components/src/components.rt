@@ -13,6 +13,9 @@ ghost use Rattle.demangle_components.specs.View.{Climb, Rise, Rise-prop};
 use crate::component::{Component, CopyComponent};
 use std::alloc::Global;
 
+/// For how many numbered components there is room from the first on. Few names have more.
+const FIRST_ROOM: usize = 8;
+
 /// The components of a name in the order in which they were completed: the numbered ones, which `S_` and its like refer
 /// to, and the others.
 #[derive(Drop)]
@@ -63,6 +66,9 @@ impl<T: Component> Components<T> {
         ensures handed_back { IfErr result (λ e. e ≡ component) }
     {
         let position = self.numbered.len();
+        if position == 0 && self.numbered.reserve(FIRST_ROOM).is_err() {
+            return Err(component);
+        }
         match self.numbered.push(component) {
             Ok(()) => Ok(position),
             Err(failed) => Err(failed.value),

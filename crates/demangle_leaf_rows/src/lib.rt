@@ -18,7 +18,7 @@ pub use bytes::{digit_at, optional_word};
 pub use context::ParseContext;
 pub use depth::{Depth, hidden};
 pub use lists::{abi_tags, clone_suffix};
-pub use numbers::substitution;
+pub use numbers::{seq_id, substitution};
 pub use read_leaf::ReadLeaf;
 pub use readers::{
     read_abi_tag, read_abi_tags, read_call_offset, read_clone_suffix, read_clone_type_identifier,

@@ -14,7 +14,11 @@ use demangle_leaf_nodes::{AbiTag, AbiTags, CloneSuffix, CloneTypeIdentifier};
 use demangle_text::{IndexStr, Result, consume, parse_unsigned};
 use std::alloc::Global;
 
-/// The ABI tags at the front, of which there may be none.
+/// The ABI tags at the front, of which there may be none. ABI section 5.1.2.
+///
+/// ```text
+/// <abi-tags> ::= <abi-tag>*
+/// ```
 #[inline(always)]
 #[tactic(auto, using(crate::proofs::Tags::tags), unfolding(demangle_grammar::specs::Code::cread))]
 pub fn abi_tags<'b>(
@@ -63,7 +67,11 @@ fn dotted_numbers<'b>(alloc: Global, input: IndexStr<'b>) -> Result<(Vec<isize>,
     Ok((numbers, rest))
 }
 
-/// The suffix of a clone.
+/// The suffix of a clone. An addition of compilers.
+///
+/// ```text
+/// <clone-suffix> ::= . <clone-type-identifier> {. <non-negative number>}*
+/// ```
 #[tactic(auto, unfolding(demangle_grammar::specs::Code::cread, demangle_grammar::specs::Rows::rule))]
 pub fn clone_suffix<'b>(
     alloc: Global,

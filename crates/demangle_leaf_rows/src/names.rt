@@ -15,6 +15,11 @@ use demangle_leaf_nodes::{
 };
 use demangle_text::{Error, IndexStr, Result, consume, parse_unsigned};
 
+/// The longest run of characters of an identifier. ABI section 5.1.2.
+///
+/// ```text
+/// <identifier> ::= <unqualified source code identifier>
+/// ```
 impl ReadLeaf for Identifier {
     ghost leaf_row = { Row.identifier };
 
@@ -33,6 +38,11 @@ impl ReadLeaf for Identifier {
     }
 }
 
+/// The word behind the first dot of a clone's suffix. An addition of compilers.
+///
+/// ```text
+/// <clone-type-identifier> ::= <unqualified source code identifier>
+/// ```
 impl ReadLeaf for CloneTypeIdentifier {
     ghost leaf_row = { Row.clone_type_identifier };
 
@@ -53,6 +63,11 @@ impl ReadLeaf for CloneTypeIdentifier {
     }
 }
 
+/// A length that is not 0, and an identifier that takes just so many bytes. ABI section 5.1.2.
+///
+/// ```text
+/// <source-name> ::= <positive length number> <identifier>
+/// ```
 impl ReadLeaf for SourceName {
     ghost leaf_row = { Row.source_name };
 
@@ -78,6 +93,11 @@ impl ReadLeaf for SourceName {
     }
 }
 
+/// One ABI tag. ABI section 5.1.2.
+///
+/// ```text
+/// <abi-tag> ::= B <source-name>
+/// ```
 impl ReadLeaf for AbiTag {
     ghost leaf_row = { Row.abi_tag };
 
@@ -93,6 +113,11 @@ impl ReadLeaf for AbiTag {
     }
 }
 
+/// A type without a name. ABI section 5.1.7.
+///
+/// ```text
+/// <unnamed-type-name> ::= Ut [<non-negative number>] _
+/// ```
 impl ReadLeaf for UnnamedTypeName {
     ghost leaf_row = { Row.unnamed_type_name };
 
@@ -111,6 +136,11 @@ impl ReadLeaf for UnnamedTypeName {
     }
 }
 
+/// One component of a Java resource. An addition of compilers.
+///
+/// ```text
+/// <resource-name> ::= <bytes without $> [$S | $_ | $$]
+/// ```
 impl ReadLeaf for ResourceName {
     ghost leaf_row = { Row.resource_name };
 

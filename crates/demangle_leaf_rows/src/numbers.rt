@@ -15,6 +15,11 @@ use demangle_leaf_nodes::{Discriminator, Number, SeqId, Substitution};
 use demangle_text::{Error, IndexStr, Result, consume, parse_number, parse_unsigned};
 use demangle_vocab::WellKnownComponent;
 
+/// A number, with its sign. ABI section 5.1.2.
+///
+/// ```text
+/// <number> ::= [n] <non-negative decimal integer>
+/// ```
 impl ReadLeaf for Number {
     ghost leaf_row = { Row.number };
 
@@ -27,9 +32,13 @@ impl ReadLeaf for Number {
     }
 }
 
-/// The number of a component, of which the next is a number too.
+/// The number of a component, of which the next is a number too. ABI section 5.1.10.
+///
+/// ```text
+/// <seq-id> ::= <0-9A-Z>+
+/// ```
 #[tactic(auto, unfolding(demangle_grammar::specs::Code::cread, demangle_grammar::specs::Rows::rule))]
-fn seq_id<'b>(depth: Depth, input: IndexStr<'b>) -> Result<(SeqId, IndexStr<'b>)>
+pub fn seq_id<'b>(depth: Depth, input: IndexStr<'b>) -> Result<(SeqId, IndexStr<'b>)>
     ensures reads { AnswersLeaf tree_of_seq_id Row.seq_id depth.levels depth.conversion input.entry result }
     ensures small { IfOk result (λ x. x.0.0 < 2 ^ 63) }
 {
@@ -38,6 +47,11 @@ fn seq_id<'b>(depth: Depth, input: IndexStr<'b>) -> Result<(SeqId, IndexStr<'b>)
     Ok((SeqId(number), rest))
 }
 
+/// The number of a component, as it is written. ABI section 5.1.10.
+///
+/// ```text
+/// <seq-id> ::= <0-9A-Z>+
+/// ```
 impl ReadLeaf for SeqId {
     ghost leaf_row = { Row.seq_id };
 
@@ -49,6 +63,12 @@ impl ReadLeaf for SeqId {
     }
 }
 
+/// Tells local entities of one name apart. ABI section 5.1.7.
+///
+/// ```text
+/// <discriminator> ::= _ <non-negative number>      # below 10
+///                 ::= __ <non-negative number> _   # from 10 on
+/// ```
 impl ReadLeaf for Discriminator {
     ghost leaf_row = { Row.discriminator };
 
@@ -71,7 +91,13 @@ impl ReadLeaf for Discriminator {
     }
 }
 
-/// A reference to a numbered component of a table that has so many, or a word for a component.
+/// A reference to a numbered component of a table that has so many, or one of the abbreviated names of `std`. ABI
+/// section 5.1.10.
+///
+/// ```text
+/// <substitution> ::= S_ | S <seq-id> _
+///                ::= St | Sa | Sb | Ss | Si | So | Sd
+/// ```
 #[inline(always)]
 #[tactic(auto, unfolding(demangle_grammar::specs::Code::cread, demangle_grammar::specs::Rows::rule))]
 pub fn substitution<'b>(

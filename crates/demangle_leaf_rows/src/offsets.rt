@@ -8,6 +8,11 @@ use crate::read_leaf::ReadLeaf;
 use demangle_leaf_nodes::{CallOffset, Number, NvOffset, VOffset};
 use demangle_text::{Error, IndexStr, Result, consume};
 
+/// A fixed offset of a thunk. ABI section 5.1.4.2.
+///
+/// ```text
+/// <nv-offset> ::= <offset number>
+/// ```
 impl ReadLeaf for NvOffset {
     ghost leaf_row = { Row.nv_offset };
 
@@ -21,6 +26,11 @@ impl ReadLeaf for NvOffset {
     }
 }
 
+/// A fixed and a virtual offset of a thunk. ABI section 5.1.4.2.
+///
+/// ```text
+/// <v-offset> ::= <offset number> _ <virtual offset number>
+/// ```
 impl ReadLeaf for VOffset {
     ghost leaf_row = { Row.v_offset };
 
@@ -36,6 +46,11 @@ impl ReadLeaf for VOffset {
     }
 }
 
+/// How a thunk changes `this` or the result. ABI section 5.1.4.2.
+///
+/// ```text
+/// <call-offset> ::= h <nv-offset> _ | v <v-offset> _
+/// ```
 impl ReadLeaf for CallOffset {
     ghost leaf_row = { Row.call_offset };
 

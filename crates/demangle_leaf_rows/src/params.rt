@@ -10,6 +10,11 @@ use crate::read_leaf::ReadLeaf;
 use demangle_leaf_nodes::{CvQualifiers, FunctionParam, TemplateParam};
 use demangle_text::{Error, IndexStr, Result, consume, parse_unsigned};
 
+/// A template parameter by its position. ABI section 5.1.5.8.
+///
+/// ```text
+/// <template-param> ::= T_ | T <parameter-2 non-negative number> _
+/// ```
 impl ReadLeaf for TemplateParam {
     ghost leaf_row = { Row.template_param };
 
@@ -28,6 +33,14 @@ impl ReadLeaf for TemplateParam {
     }
 }
 
+/// A parameter of the function that is declared. ABI section 5.1.5.9.
+///
+/// ```text
+/// <function-param> ::= fp <CV-qualifiers> _ | fp <CV-qualifiers> <parameter-2 non-negative number> _
+///                  ::= fL <L-1 non-negative number> p <CV-qualifiers> _
+///                  ::= fL <L-1 non-negative number> p <CV-qualifiers> <parameter-2 non-negative number> _
+///                  ::= fpT
+/// ```
 impl ReadLeaf for FunctionParam {
     ghost leaf_row = { Row.function_param };
 
@@ -58,6 +71,11 @@ impl ReadLeaf for FunctionParam {
     }
 }
 
+/// Qualifiers, of which there may be none. ABI section 5.1.5.1.
+///
+/// ```text
+/// <CV-qualifiers> ::= [r] [V] [K]
+/// ```
 impl ReadLeaf for CvQualifiers {
     ghost leaf_row = { Row.cv_qualifiers };
 

@@ -13,6 +13,11 @@ use demangle_vocab::{
     WellKnownComponent,
 };
 
+/// One of the abbreviated names of `std`. ABI section 5.1.10.
+///
+/// ```text
+/// <substitution> ::= St | Sa | Sb | Ss | Si | So | Sd
+/// ```
 impl ReadLeaf for WellKnownComponent {
     ghost leaf_row = { Row.well_known_component };
 
@@ -28,6 +33,11 @@ impl ReadLeaf for WellKnownComponent {
     }
 }
 
+/// An operator whose name is one word. ABI section 5.1.3.
+///
+/// ```text
+/// <operator-name> ::= nw | na | dl | da | ..   # a word of the table
+/// ```
 impl ReadLeaf for SimpleOperatorName {
     ghost leaf_row = { Row.simple_operator_name };
 
@@ -43,6 +53,11 @@ impl ReadLeaf for SimpleOperatorName {
     }
 }
 
+/// A builtin type whose name is one word. ABI section 5.1.5.2.
+///
+/// ```text
+/// <builtin-type> ::= v | w | b | c | ..   # a word of the table
+/// ```
 impl ReadLeaf for StandardBuiltinType {
     ghost leaf_row = { Row.standard_builtin_type };
 
@@ -58,6 +73,11 @@ impl ReadLeaf for StandardBuiltinType {
     }
 }
 
+/// `&` or `&&`. ABI section 5.1.5.3.
+///
+/// ```text
+/// <ref-qualifier> ::= R | O
+/// ```
 impl ReadLeaf for RefQualifier {
     ghost leaf_row = { Row.ref_qualifier };
 
@@ -70,6 +90,7 @@ impl ReadLeaf for RefQualifier {
     }
 }
 
+/// The mark of a member function whose first parameter is the object. ABI section 5.1.2.
 impl ReadLeaf for ExplicitObjectParameter {
     ghost leaf_row = { Row.explicit_object_parameter };
 

@@ -1,16 +1,14 @@
 //! What compilers make beside functions and variables, ABI section 5.1.4.
 
-ghost use Rattle.std.specs.Prelude.{◌≡◌, ◌≤◌, ◌<◌, ◌^◌, IfOk, [], ◌∷◌};
+ghost use Rattle.std.specs.Prelude.{◌≡◌, ◌≤◌, ◌<◌, [], ◌∷◌};
 ghost use Rattle.demangle_text.specs.Spot.{spot};
 ghost use Rattle.demangle_table.specs.TableOf.{table_of};
-ghost use Rattle.demangle_leaf_nodes.specs.TreeLeaves.{tree_of_seq_id};
 ghost use Rattle.demangle_nodes.specs.TreeNodes.{tree_of_special_name};
 ghost use Rattle.demangle_grammar.specs.Rule.{Row};
 ghost use Rattle.demangle_grammar.specs.Code.{cread, here};
 ghost use Rattle.demangle_forms.specs.SpecialForms.{thunks_at, covariant_thunk_at, thunk_at, construction_vtable_at};
 ghost use Rattle.demangle_forms.specs.SpecialForms.{of_names_at, compiler_additions_at, guard_temporary_at};
 ghost use Rattle.demangle_forms.specs.SpecialForms.{transaction_clone_at};
-ghost use Rattle.demangle_leaf_rows.specs.Answers.{AnswersLeaf};
 ghost use Rattle.demangle_answers.specs.Reads.{Reads, ReadsRow};
 
 use crate::special_words::{any_byte, name_word, table_word};
@@ -18,7 +16,7 @@ use demangle_answers::{begins_thunk, has_more, kept, restored};
 use demangle_below::Below;
 use demangle_entries::SpecialName;
 use demangle_leaf_nodes::{CallOffset, SeqId};
-use demangle_leaf_rows::{Depth, ReadLeaf};
+use demangle_leaf_rows::{Depth, ReadLeaf, seq_id};
 use demangle_parse_types::boxed_encoding;
 use demangle_row_parts::java_resource;
 use demangle_table::SubstitutionTable;
@@ -222,21 +220,6 @@ fn guard_temporary<'b, B: Below>(
     let (name, (SeqId(number), rest)) = kept(subs, mark, name, seq_id(depth, rest))?;
     let (name, rest) = kept(subs, mark, name, consume(b"_", rest))?;
     Ok((SpecialName::GuardTemporary(name, number + 1), rest))
-}
-
-/// The number of a temporary, of which the next is a number too. ABI section 5.1.10.
-///
-/// ```text
-/// <seq-id> ::= <0-9A-Z>+
-/// ```
-#[tactic(auto, unfolding(demangle_grammar::specs::Code::cread, demangle_grammar::specs::Rows::rule))]
-fn seq_id<'b>(depth: Depth, input: IndexStr<'b>) -> Result<(SeqId, IndexStr<'b>)>
-    ensures reads { AnswersLeaf tree_of_seq_id Row.seq_id depth.levels depth.conversion input.entry result }
-    ensures small { IfOk result (λ x. x.0.0 < 2 ^ 63) }
-{
-    let _depth = depth.enter()?;
-    let (number, rest) = parse_unsigned(36, input)?;
-    Ok((SeqId(number), rest))
 }
 
 /// A copy of a function for transactions, behind `GT`: `n <encoding>`, or another byte for `t` before the encoding.

@@ -51,8 +51,8 @@ pub fn first_prefix<'b, B: Below>(
             let handle = add_prefix(subs, mark, Prefix::TemplateParam(parameter), rest)?;
             Ok((handle, rest))
         }
-        Turn::Decltype => { first_decltype(below, alloc, depth, subs, input) }
-        Turn::Name => { first_name(below, alloc, depth, subs, input) }
+        Turn::Decltype => first_decltype(below, alloc, depth, subs, input),
+        Turn::Name => first_name(below, alloc, depth, subs, input),
         Turn::Template | Turn::None => Err(no_prefix(input)),
     }
 }
@@ -135,13 +135,13 @@ pub fn prefix_turn<'b, B: Below>(
             let handle = add_prefix(subs, mark, Prefix::TemplateParam(parameter), rest)?;
             Ok((handle, rest))
         }
-        Turn::Decltype => { turn_decltype(below, alloc, depth, subs, input, prefix) }
+        Turn::Decltype => turn_decltype(below, alloc, depth, subs, input, prefix),
         Turn::Template => {
             let (args, rest) = template_args(below, alloc, depth, subs, input)?;
             let handle = add_prefix(subs, mark, Prefix::Template(prefix, args), rest)?;
             Ok((handle, rest))
         }
-        Turn::Name => { turn_name(below, alloc, depth, subs, input, prefix) }
+        Turn::Name => turn_name(below, alloc, depth, subs, input, prefix),
         Turn::None => Ok((prefix, input)),
     }
 }

@@ -46,7 +46,11 @@ pub fn optional_number<'b>(
     }
 }
 
-/// The member in whose initializer a closure stands, ABI section 5.1.7, <data-member-prefix>: a source name and `M`.
+/// The member in whose initializer a closure stands. ABI section 5.1.7.
+///
+/// ```text
+/// <data-member-prefix> ::= <source-name> M
+/// ```
 #[tactic(auto, unfolding(demangle_grammar::specs::Code::cread, demangle_grammar::specs::Rows::rule))]
 pub fn data_member_prefix<'b>(
     depth: Depth,

@@ -14,8 +14,12 @@ use demangle_leaf_rows::{Depth, ReadLeaf, optional_word};
 use demangle_text::{IndexStr, Result, consume};
 use demangle_vocab::RefQualifier;
 
-/// Qualifiers, of which there is one at least, ABI section 5.1.5.1, <CV-qualifiers>. Where none is there, the refusal
-/// is that of the last, `K`.
+/// Qualifiers, of which there is one at least. Where none is there, the refusal is that of the last, `K`. ABI section
+/// 5.1.5.1.
+///
+/// ```text
+/// <CV-qualifiers> ::= [r] [V] [K]
+/// ```
 #[tactic(auto, unfolding(demangle_grammar::specs::Code::cread, demangle_grammar::specs::Rows::rule))]
 pub fn some_cv_qualifiers<'b>(
     depth: Depth,
@@ -53,7 +57,7 @@ pub fn some_cv_qualifiers<'b>(
     Ok((qualifiers, rest))
 }
 
-/// `&`, `&&` or neither, ABI section 5.1.2, <ref-qualifier>. The one refusal is `TooMuchRecursion`.
+/// `&`, `&&` or neither, ABI section 5.1.5.3, <ref-qualifier>. The one refusal is `TooMuchRecursion`.
 #[tactic(auto, unfolding(demangle_grammar::specs::Code::optional_at))]
 pub fn optional_ref_qualifier<'b>(
     depth: Depth,
