@@ -9,6 +9,9 @@ use demangle_context::SinkFault;
 /// How many bytes are gathered before they are written.
 pub const GATHERED: usize = 256 * 1024;
 
+/// From so many bytes on, bytes are written as they are, and not gathered first.
+const LONG: usize = 16 * 1024;
+
 /// Writes all the bytes.
 #[tactic(auto, using(crate::proofs::MoveLaws::move_laws))]
 pub fn write_all<W: Sink>(output: &mut W, bytes: &[u8]) -> Result<(), SinkFault>
@@ -35,25 +38,25 @@ pub fn flush<W: Sink>(output: &mut W, pending: &mut Vec<u8>) -> Result<(), SinkF
     Ok(())
 }
 
-/// Gathers these bytes behind the others, and writes where there are many.
+/// Gathers these bytes behind the others where they are few, and writes where there are many.
 pub fn emit<W: Sink>(output: &mut W, pending: &mut Vec<u8>, bytes: &[u8]) -> Result<(), SinkFault>
     ensures { Gives (W.written output.old) (W.written output.new) (W.faults output.old) (W.faults output.new) result
         (pending.old.items ++ bytes.now) pending.new.items }
 {
-    if bytes.len() <= GATHERED.saturating_sub(pending.len()) {
+    if bytes.len() < LONG && bytes.len() <= GATHERED.saturating_sub(pending.len()) {
         pending.extend_from_slice(bytes)?;
         return Ok(());
     }
     emit_many(output, pending, bytes)
 }
 
-/// Writes what is gathered, and then these bytes, or gathers them.
+/// Writes what is gathered, and then these bytes where they are many, or gathers them.
 fn emit_many<W: Sink>(output: &mut W, pending: &mut Vec<u8>, bytes: &[u8]) -> Result<(), SinkFault>
     ensures { Gives (W.written output.old) (W.written output.new) (W.faults output.old) (W.faults output.new) result
         (pending.old.items ++ bytes.now) pending.new.items }
 {
     flush(output, pending)?;
-    if bytes.len() < GATHERED {
+    if bytes.len() < LONG {
         pending.extend_from_slice(bytes)?;
         return Ok(());
     }

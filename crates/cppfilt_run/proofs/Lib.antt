@@ -7,3 +7,4 @@ pub mod ReportLaws
 pub mod RunLaws
 pub mod SampleLaws
 pub mod ShownLaws
+pub mod StayLaws

@@ -27,7 +27,7 @@ before_feed-ended line more ended =
     let other : eqb (before_feed line) (length line) ≡ false = search (rules, tests) in
     rw (e, other) refl
 
-due-completed : (o : FilterOptions) (held line more : List ℕ) → before_feed held ≡ length held
+pub due-completed : (o : FilterOptions) (held line more : List ℕ) → before_feed held ≡ length held
     → before_feed line + 1 ≡ length line
     → due o (held ++ (line ++ more)) ≡ shown_line o (held ++ line) ++ due o more
 due-completed o held line more free ended =

@@ -5,4 +5,5 @@ pub mod Owed
 pub mod Ran
 pub mod Refused
 pub mod Statuses
+pub mod Staying
 pub mod StatusText

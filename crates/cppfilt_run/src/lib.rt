@@ -12,6 +12,7 @@ pub mod run;
 mod sample;
 mod shown;
 pub mod status;
+mod staying;
 pub mod words;
 
 pub use cppfilt_ends::{ends, faulty, memory, standard};

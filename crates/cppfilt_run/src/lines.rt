@@ -1,13 +1,15 @@
 //! The filter of lines: it gives on what is due for each line that is complete, and holds the front of one that isn't.
 
-ghost use Rattle.std.specs.Prelude.{◌≡◌, ℕ, ◌+◌, List, [], ◌++◌, length, OnOk, IfOk};
+ghost use Rattle.std.specs.Prelude.{◌≡◌, ℕ, ◌+◌, ◌<◌, ◌≤◌, false, true, List, [], ◌++◌, length, take, OnOk, IfOk};
 ghost use Rattle.cppfilt_ends.specs.Moves.{Gives};
 ghost use Rattle.cppfilt_lines.specs.Due.{due, shown_line};
 ghost use Rattle.cppfilt_lines.specs.Lines.{before_feed, unfinished};
 ghost use Rattle.cppfilt_run.specs.Owed.{ahead};
+ghost use Rattle.cppfilt_run.specs.Staying.{begins_line, stays};
 
 use crate::cutting::{body_len, through_line_feed};
 use crate::shown::{emit_asked, is_asked};
+use crate::staying::staying_len;
 use cppfilt_ends::ends::Sink;
 use cppfilt_ends::output::{GATHERED, emit, flush};
 use cppfilt_lines::FilterOptions;
@@ -107,6 +109,19 @@ impl LineFilter {
         Ok(())
     }
 
+    /// How many bytes the complete lines at the front have that stay as they are; where a line is begun, none.
+    fn staying_len(&self, options: &FilterOptions, bytes: &[u8]) -> usize
+        ensures within { result ≤ length bytes.now }
+        ensures clear { 0 < result → (self.now.held.items ≡ []) × (options.now.types ≡ false) }
+        ensures stays { stays true (take result bytes.now) ≡ true }
+        ensures ends { begins_line true (take result bytes.now) ≡ true }
+    {
+        if options.types || !self.held.is_empty() {
+            return 0;
+        }
+        staying_len(bytes)
+    }
+
     /// Gives on what is due for a block of input, and writes it.
     pub(crate) fn take_block<W: Sink>(
         &mut self,
@@ -146,7 +161,17 @@ impl LineFilter {
         ensures free { OnOk result (before_feed self.new.held.items ≡ length self.new.held.items) }
     {
         let mut rest = block;
-        while let Some(end) = through_line_feed(rest) {
+        loop {
+            let staying = self.staying_len(options, rest);
+            if staying > 0 {
+                let (lines, after) = rest.split_at(staying);
+                emit(output, &mut self.pending, lines)?;
+                rest = after;
+                continue;
+            }
+            let Some(end) = through_line_feed(rest) else {
+                break;
+            };
             let (line, after) = rest.split_at(end);
             self.complete(options, output, line)?;
             rest = after;

@@ -4,8 +4,8 @@ use Rattle.cppfilt_lines.specs.Lines.{before_feed, unfinished}
 use Rattle.cppfilt_run.specs.Owed.{ahead}
 use Rattle.cppfilt_run.proofs.lines.LineFilter.take_lines.Given as goal
 
-abbrev pub invariant-loop-end : goal.invariant-loop-end
-invariant-loop-end g l =
+abbrev pub invariant-loop-rest : goal.invariant-loop-rest
+invariant-loop-rest g l =
     ((more : List ℕ) → Moves (g.W.Sink.written l.fn.output) (g.W.Sink.written l.output)
     (ahead l.options l.fn.self.pending.items l.fn.self.held.items (l.block ++ more))
     (ahead l.options l.self.pending.items l.self.held.items (l.rest ++ more)))
@@ -14,5 +14,5 @@ invariant-loop-end g l =
     × (front : List ℕ) × (l.block ≡ front ++ l.rest)
     × ((seen : List ℕ) → l.fn.self.held.items ≡ unfinished seen → l.self.held.items ≡ unfinished (seen ++ front))
 
-abbrev pub decreases-loop-end : goal.decreases-loop-end
-decreases-loop-end g l = length l.rest
+abbrev pub decreases-loop-rest : goal.decreases-loop-rest
+decreases-loop-rest g l = length l.rest
