@@ -12,8 +12,7 @@ pub use components::{
 };
 pub use demangle_discard::Discard;
 pub use held::{
-    begun, boxed, grown, in_box, kept, lengthened, looked_behind, may_miss, passed,
-    restored,
+    begun, boxed, grown, in_box, kept, lengthened, looked_behind, may_miss, passed, restored,
 };
 pub use next::{
     begins_fold, begins_function, begins_left_fold, begins_thunk, begins_with, has_more, next_is,
