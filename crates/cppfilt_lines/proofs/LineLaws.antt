@@ -9,7 +9,7 @@ use Rattle.std.proofs.lemmas.List.Sums.{fold-append}
 use Rattle.std.proofs.Math.Seq.{take-append-add, drop-append-add, take-length, take-append_seam}
 use Rattle.demangle_printing.specs.Outcome.{outcome}
 use Rattle.cppfilt_lines.specs.declared.options.FilterOptions.{FilterOptions}
-use Rattle.cppfilt_lines.specs.Lines.{before, before_feed, lines, onto_first, body, ending, without_last, line_after}
+use Rattle.cppfilt_lines.specs.Lines.{before_feed, lines, onto_first, body, ending, without_last, line_after}
 use Rattle.cppfilt_lines.specs.Lines.{unfinished, complete}
 use Rattle.cppfilt_lines.specs.Shown.{is_asked, answered, shown}
 use Rattle.cppfilt_lines.specs.Due.{shown_line, due}
@@ -94,17 +94,12 @@ pub due-last : (o : FilterOptions) (x : List ℕ) → before_feed x ≡ length x
 unfolding due Last
 due-last o x free some = rw (lines-last x free some, append-nil) refl
 
--- the first byte like this behind bytes without one
-pub before-append : (wanted : ℕ) (held x : List ℕ) → before wanted held ≡ length held
-    → before wanted (held ++ x) ≡ length held + before wanted x
-before-append wanted held x free =
-    let e = prefix_len-append (λ b. not (eqb b wanted)) held x in
-    rw (e, free, eq-eqb (length held) (length held) refl) refl
-
--- the first line feed
+-- the first line feed behind bytes without one
 pub before_feed-append : (held x : List ℕ) → before_feed held ≡ length held
     → before_feed (held ++ x) ≡ length held + before_feed x
-before_feed-append held x free = before-append 10 held x free
+before_feed-append held x free =
+    let e = prefix_len-append (λ b. not (eqb b 10)) held x in
+    rw (e, free, eq-eqb (length held) (length held) refl) refl
 
 -- what is due for bytes held without a line feed, once the next one is seen
 pub due-held : (o : FilterOptions) (held x : List ℕ) → before_feed held ≡ length held → before_feed x < length x

@@ -13,13 +13,9 @@ unfoldable pub lines : List ℕ → List (List ℕ)
 lines [] = []
 lines (b ∷ bs) = if b == 10 then (b ∷ []) ∷ lines bs else onto_first b (lines bs)
 
--- how many bytes stand before the first that is this one
-abbrev pub before : ℕ → List ℕ → ℕ
-before wanted input = prefix_len (λ b. not (b == wanted)) input
-
 -- how many bytes stand before the first line feed
 abbrev pub before_feed : List ℕ → ℕ
-before_feed input = before 10 input
+before_feed input = prefix_len (λ b. not (b == 10)) input
 
 -- a line without this byte at its end
 abbrev pub without_last : ℕ → List ℕ → List ℕ

@@ -1,21 +1,22 @@
 -- Laws on lines that stay: what is due for them, what is kept behind them, and how code finds them.
-use Rattle.std.proofs.Common.{◌≡◌, ℕ, suc, ◌+◌, ◌≤◌, ◌<◌, Bool, true, false, ◌&&◌, not, eqb, List, [], ◌∷◌, ◌++◌}
+use Rattle.std.proofs.Common.{◌≡◌, ℕ, suc, ◌+◌, ◌≤◌, ◌<◌, Bool, true, false, ◌&&◌, ◌||◌, not, eqb, List, [], ◌∷◌, ◌++◌}
 use Rattle.std.proofs.Common.{length, take, drop, refl, sym, ap, ◌∙◌, append_assoc, arith}
 use Rattle.std.proofs.Common.{get_or, fold, ◌-◌, zero, take-append-drop}
 use Rattle.std.proofs.lemmas.List.{get_or-take, length-take-le}
-use Rattle.std.proofs.Math.Seq.{take-add, take-suc}
+use Rattle.std.proofs.Math.Seq.{take-add, take-suc, take-length}
+use Rattle.std.proofs.lemmas.Grind.{common_steps}
 use Rattle.std.specs.Prelude.{Option}
 use Rattle.std.proofs.lemmas.Bool.{true≢false}
 use Rattle.std.proofs.lemmas.List.Sums.{fold-append}
 use Rattle.cppfilt_ends.specs.Moves.{Moves, Begins}
 use Rattle.cppfilt_ends.proofs.MoveLaws.{moves-more, begins-more}
 use Rattle.cppfilt_lines.specs.Due.{due, shown_line}
-use Rattle.cppfilt_lines.specs.Lines.{before, before_feed, body, ending, line_after, unfinished}
+use Rattle.cppfilt_lines.specs.Lines.{before_feed, body, ending, line_after, unfinished}
 use Rattle.cppfilt_lines.specs.Shown.{is_asked}
 use Rattle.cppfilt_lines.specs.declared.options.FilterOptions.{FilterOptions}
 use Rattle.cppfilt_lines.proofs.LineLaws.{body-ending, shown-kept}
 use Rattle.cppfilt_run.specs.Owed.{ahead}
-use Rattle.cppfilt_run.specs.Staying.{begins_line, stays}
+use Rattle.cppfilt_run.specs.Staying.{begins_line, stays, stays_behind}
 use Rattle.cppfilt_run.proofs.OwedLaws.{due-completed, free-append}
 use Rattle.cppfilt_run.proofs.ShownLaws.{unnamed}
 
@@ -24,9 +25,18 @@ and_assoc : (a b c : Bool) → ((a && b) && c) ≡ (a && (b && c))
 and_assoc true b c = refl
 and_assoc false b c = refl
 
+and-true : (a : Bool) → (a && true) ≡ a
+and-true true = refl
+and-true false = refl
+
 and-false : (a : Bool) → (a && false) ≡ false
 and-false true = refl
 and-false false = refl
+
+begins-append : (p : Bool) (xs ys : List ℕ) → begins_line p (xs ++ ys) ≡ begins_line (begins_line p xs) ys
+unfolding begins_line
+begins-append p [] ys = refl
+begins-append p (x ∷ xs) ys = begins-append (eqb x 10) xs ys
 
 stays-append : (p : Bool) (xs ys : List ℕ) → stays p (xs ++ ys) ≡ (stays p xs && stays (begins_line p xs) ys)
 unfolding stays begins_line
@@ -46,21 +56,6 @@ right false b e = absurd (true≢false (sym e))
 stays-both : (p : Bool) (xs ys : List ℕ) → stays p xs ≡ true → stays (begins_line p xs) ys ≡ true
     → stays p (xs ++ ys) ≡ true
 stays-both p xs ys e f = rw (stays-append p xs ys, e, f) refl
-
--- bytes none of which is `_`
-clear-step : (p : Bool) (y : ℕ) (ys : List ℕ) (t : Bool) → eqb y 95 ≡ t → before 95 (y ∷ ys) ≡ length (y ∷ ys)
-    → (before 95 ys ≡ length ys → stays (eqb y 10) ys ≡ true) → stays p (y ∷ ys) ≡ true
-unfolding stays
-clear-step p y ys true e free ih = let none : before 95 (y ∷ ys) ≡ 0 = rw e refl in absurd (omega arith)
-clear-step p y ys false e free ih =
-    let next : before 95 (y ∷ ys) ≡ 1 + before 95 ys = rw e refl in
-    let h = ih (omega arith) in
-    rw (e, and-false p, h) refl
-
-stays-clear : (p : Bool) (ys : List ℕ) → before 95 ys ≡ length ys → stays p ys ≡ true
-unfolding stays
-stays-clear p [] free = refl
-stays-clear p (y ∷ ys) free = clear-step p y ys (eqb y 95) refl free (stays-clear (eqb y 10) ys)
 
 -- the byte before decides
 pub begins-last : (p : Bool) (xs : List ℕ) (i : ℕ) → length xs ≡ suc i → begins_line p xs ≡ eqb (get_or xs i 0) 10
@@ -90,45 +85,89 @@ unfolding begins_line
 begins-behind bytes zero other = absurd (true≢false other)
 begins-behind bytes (suc i) other = omega arith
 
--- up to the next `_`
-front-step : (y : ℕ) (ys : List ℕ) (t : Bool) → eqb y 95 ≡ t
-    → before 95 (take (before 95 ys) ys) ≡ length (take (before 95 ys) ys)
-    → before 95 (take (before 95 (y ∷ ys)) (y ∷ ys)) ≡ length (take (before 95 (y ∷ ys)) (y ∷ ys))
-front-step y ys true e ih = rw e refl
-front-step y ys false e ih =
-    let n = before 95 ys in
-    let one : before 95 (y ∷ ys) ≡ 1 + n = rw e refl in
-    let next : before 95 (y ∷ ys) ≡ suc n = omega arith in
-    let more : before 95 (y ∷ take n ys) ≡ 1 + before 95 (take n ys) = rw e refl in
-    rw next (omega arith)
+take-next : (bytes : List ℕ) (at : ℕ) → at < length bytes
+    → take (at + 1) bytes ≡ take at bytes ++ (get_or bytes at 0 ∷ [])
+take-next bytes at within =
+    ap (λ n. take n bytes) (let next : at + 1 ≡ suc at = omega arith in next) ∙ take-suc bytes at 0 within
 
-before-front : (ys : List ℕ) → before 95 (take (before 95 ys) ys) ≡ length (take (before 95 ys) ys)
-before-front [] = refl
-before-front (y ∷ ys) = front-step y ys (eqb y 95) refl (before-front ys)
-
-pub stays-to : (bytes : List ℕ) (front count : ℕ) → stays true (take front bytes) ≡ true
-    → before 95 (drop front bytes) ≡ count → stays true (take (front + count) bytes) ≡ true
-stays-to bytes front count stay is =
-    let free = ap (λ n. before 95 (take n (drop front bytes))) (sym is) ∙ before-front (drop front bytes)
-    ∙ ap (λ n. length (take n (drop front bytes))) is in
-    rw (take-add front count bytes)
-    (stays-both true (take front bytes) (take count (drop front bytes)) stay (stays-clear _ _ free))
-
--- past one that begins no line
+-- past a byte that begins no line
 pub stays-past : (bytes : List ℕ) (at : ℕ) → at < length bytes → stays true (take at bytes) ≡ true
     → begins_line true (take at bytes) ≡ false → stays true (take (at + 1) bytes) ≡ true
 unfolding stays
 stays-past bytes at within stay inside =
-    let one : take (at + 1) bytes ≡ take at bytes ++ (get_or bytes at 0 ∷ []) =
-    ap (λ n. take n bytes) (let next : at + 1 ≡ suc at = omega arith in next) ∙ take-suc bytes at 0 within in
+    let one : take (at + 1) bytes ≡ take at bytes ++ (get_or bytes at 0 ∷ []) = take-next bytes at within in
     rw one (stays-both true (take at bytes) (get_or bytes at 0 ∷ []) stay (rw inside refl))
 
--- to the end
-pub stays-whole : (bytes : List ℕ) (front : ℕ) → stays true (take front bytes) ≡ true
-    → before 95 (drop front bytes) ≡ length (drop front bytes) → stays true bytes ≡ true
-stays-whole bytes front stay free =
-    rw (← take-append-drop front bytes)
-    (stays-both true (take front bytes) (drop front bytes) stay (stays-clear _ _ free))
+-- past another byte
+pub stays-other : (bytes : List ℕ) (at : ℕ) → at < length bytes → stays true (take at bytes) ≡ true
+    → eqb (get_or bytes at 0) 95 ≡ false → stays true (take (at + 1) bytes) ≡ true
+unfolding stays
+stays-other bytes at within stay other =
+    let one : take (at + 1) bytes ≡ take at bytes ++ (get_or bytes at 0 ∷ []) = take-next bytes at within in
+    rw one (stays-both true (take at bytes) (get_or bytes at 0 ∷ []) stay (rw (other, and-false _) refl))
+
+-- the first byte
+pub stays-one : (bytes : List ℕ) → eqb (get_or bytes 0 0) 95 ≡ false → stays true (take 1 bytes) ≡ true
+unfolding stays
+stays-one [] other = refl
+stays-one (b ∷ bs) other = rw other refl
+
+-- ---- behind a byte
+pub behind-one : (bytes : List ℕ) → stays_behind (take 1 bytes) ≡ true
+unfolding stays
+behind-one [] = refl
+behind-one (b ∷ bs) = refl
+
+-- one more byte
+behind-next : (bytes : List ℕ) (i : ℕ) → 1 ≤ i → i < length bytes → stays_behind (take (i + 1) bytes)
+    ≡ (stays_behind (take i bytes) && not (eqb (get_or bytes (i - 1) 0) 10 && eqb (get_or bytes i 0) 95))
+unfolding stays begins_line
+behind-next [] i some within = absurd (omega arith)
+behind-next (b ∷ bs) zero some within = absurd (omega arith)
+behind-next (b ∷ bs) (suc j) some within =
+    let next : suc j + 1 ≡ suc (suc j) = omega arith in
+    let x = get_or bs j 0 in
+    let one : take (suc j) bs ≡ take j bs ++ (x ∷ []) = take-suc bs j 0 (omega arith) in
+    let before' = begins-at (b ∷ bs) (suc j) (omega arith) (omega arith) in
+    rw (next, one, stays-append (eqb b 10) (take j bs) (x ∷ []), before', and-true _) refl
+
+or-not : (s a x : Bool) → s ≡ not a → (s || x) ≡ not (a && not x)
+or-not s true true e = rw e refl
+or-not s true false e = rw e refl
+or-not s false x e = rw e refl
+
+pub seen-next : (bytes : List ℕ) (i : ℕ) (s : Bool) → 1 ≤ i → i < length bytes → s ≡ not (stays_behind (take i bytes))
+    → (s || (eqb (get_or bytes (i - 1) 0) 10 && eqb (get_or bytes i 0) 95)) ≡ not (stays_behind (take (i + 1) bytes))
+seen-next bytes i s some within e = or-not s _ _ e ∙ ap not (sym (behind-next bytes i some within))
+
+-- as many more
+joined : (p : Bool) (xs : List ℕ) (b : ℕ) (ys : List ℕ) → stays p (xs ++ (b ∷ [])) ≡ true → stays (eqb b 10) ys ≡ true
+    → stays p (xs ++ (b ∷ ys)) ≡ true
+unfolding begins_line
+joined p xs b ys e f =
+    let at : begins_line p (xs ++ (b ∷ [])) ≡ eqb b 10 = begins-append p xs (b ∷ []) in
+    rw (← append_assoc xs (b ∷ []) ys) (stays-both p (xs ++ (b ∷ [])) ys e (rw at f))
+
+chunk-behind : (xs d : List ℕ) (n : ℕ) → 0 < length d → stays true (xs ++ take 1 d) ≡ true
+    → stays_behind (take (suc n) d) ≡ true → stays true (xs ++ take (suc n) d) ≡ true
+chunk-behind xs [] n some e f = absurd (omega arith)
+chunk-behind xs (b ∷ bs) n some e f = joined true xs b (take n bs) e f
+
+pub stays-chunk : (bytes : List ℕ) (at m : ℕ) → m ≡ 33 → at + 32 < length bytes
+    → stays true (take (at + 1) bytes) ≡ true → stays_behind (take m (drop at bytes)) ≡ true
+    → stays true (take (at + 32 + 1) bytes) ≡ true
+stays-chunk bytes at m same within stay behind =
+    let size : length (drop at bytes) ≡ length bytes - at = grind (arith, common_steps) in
+    let whole : at + 32 + 1 ≡ at + suc 32 = omega arith in
+    let chunk : stays_behind (take (suc 32) (drop at bytes)) ≡ true =
+    ap (λ k. stays_behind (take k (drop at bytes))) (sym same) ∙ behind in
+    let front : stays true (take at bytes ++ take 1 (drop at bytes)) ≡ true =
+    ap (stays true) (sym (take-add at 1 bytes)) ∙ stay in
+    rw (whole, take-add at (suc 32) bytes) (chunk-behind (take at bytes) (drop at bytes) 32 (omega arith) front chunk)
+
+-- ---- a front of them
+pub stays-all : (bytes : List ℕ) (n : ℕ) → n ≡ length bytes → stays true (take n bytes) ≡ true → stays true bytes ≡ true
+stays-all bytes n e stay = ap (stays true) (sym (ap (λ k. take k bytes) e ∙ take-length bytes)) ∙ stay
 
 pub stays-front : (bytes : List ℕ) (n : ℕ) → stays true bytes ≡ true → stays true (take n bytes) ≡ true
 stays-front bytes n stay =

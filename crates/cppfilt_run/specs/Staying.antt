@@ -10,3 +10,8 @@ begins_line begin (b ∷ bs) = begins_line (b == 10) bs
 unfoldable pub stays : (begin : Bool) → List ℕ → Bool
 stays begin [] = true
 stays begin (b ∷ bs) = not (begin && (b == 95)) && stays (b == 10) bs
+
+-- the same of the bytes behind the first
+abbrev pub stays_behind : List ℕ → Bool
+stays_behind [] = true
+stays_behind (b ∷ bs) = stays (b == 10) bs

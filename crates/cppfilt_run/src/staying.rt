@@ -1,10 +1,10 @@
 //! Lines that stay as they are, many at once: complete ones, none of which begins with the byte that linker names begin
 //! with.
 
-ghost use Rattle.std.specs.Prelude.{◌≡◌, ◌≤◌, true, length, take, MatchOption};
-ghost use Rattle.cppfilt_run.specs.Staying.{begins_line, stays};
+ghost use Rattle.std.specs.Prelude.{◌≡◌, ◌+◌, ◌<◌, ◌≤◌, true, not, length, take, MatchOption};
+ghost use Rattle.cppfilt_run.specs.Staying.{begins_line, stays, stays_behind};
 
-use crate::cutting::{LINE_FEED, position};
+use crate::cutting::{CHUNK, LINE_FEED};
 
 /// The byte that linker names begin with.
 const UNDERSCORE: u8 = 95;
@@ -17,20 +17,62 @@ fn begins_line(bytes: &[u8], at: usize) -> bool
     at == 0 || bytes[at - 1] == LINE_FEED
 }
 
+/// Whether `_` stands behind a line feed. All bytes are looked at, so that several are at once.
+fn has_underscore_line(bytes: &[u8]) -> bool
+    ensures { result ≡ not (stays_behind bytes.now) }
+{
+    let mut seen = false;
+    let mut i = 1;
+    while i < bytes.len() {
+        seen |= (bytes[i - 1] == LINE_FEED) & (bytes[i] == UNDERSCORE);
+        i += 1;
+    }
+    seen
+}
+
+/// A byte up to which no line begins with `_`, itself included, chunk by chunk.
+fn staying_chunks(bytes: &[u8]) -> usize
+    requires first { stays true (take 1 bytes.now) ≡ true }
+    requires some { 0 < length bytes.now }
+    ensures within { result < length bytes.now }
+    ensures stays { stays true (take (result + 1) bytes.now) ≡ true }
+{
+    let mut at = 0;
+    while bytes.len() - at > CHUNK && !has_underscore_line(&bytes[at..at + CHUNK + 1]) {
+        at += CHUNK;
+    }
+    at
+}
+
+/// Where the first line begins behind a byte that begins with `_`; `None` where there is none.
+fn underscore_behind(bytes: &[u8], at: usize) -> Option<usize>
+    requires within { at < length bytes.now }
+    requires stays { stays true (take (at + 1) bytes.now) ≡ true }
+    ensures { MatchOption result (stays true bytes.now ≡ true) (λ at. (at ≤ length bytes.now)
+        × (stays true (take at bytes.now) ≡ true) × (begins_line true (take at bytes.now) ≡ true)) }
+{
+    let mut i = at + 1;
+    while i < bytes.len() {
+        if bytes[i] == UNDERSCORE && begins_line(bytes, i) {
+            return Some(i);
+        }
+        i += 1;
+    }
+    None
+}
+
 /// Where the first line begins that begins with `_`, of bytes that begin a line; `None` where there is none.
 fn underscore_line(bytes: &[u8]) -> Option<usize>
     ensures { MatchOption result (stays true bytes.now ≡ true) (λ at. (at ≤ length bytes.now)
         × (stays true (take at bytes.now) ≡ true) × (begins_line true (take at bytes.now) ≡ true)) }
 {
-    let mut front = 0;
-    while let Some(count) = position(&bytes[front..], UNDERSCORE) {
-        let at = front + count;
-        if begins_line(bytes, at) {
-            return Some(at);
-        }
-        front = at + 1;
+    if bytes.is_empty() {
+        return None;
     }
-    None
+    if bytes[0] == UNDERSCORE {
+        return Some(0);
+    }
+    underscore_behind(bytes, staying_chunks(bytes))
 }
 
 /// How many bytes the complete lines have, of bytes that begin a line.

@@ -1,41 +1,22 @@
-use Rattle.std.proofs.Common.{◌≡◌, ◌+◌, ◌-◌, ◌<◌, length, drop, take, refl, arith, sym}
-use Rattle.std.proofs.lemmas.Grind.{common_steps}
-use Rattle.cppfilt_lines.specs.Lines.{before}
-use Rattle.cppfilt_run.specs.Staying.{stays}
-use Rattle.cppfilt_run.proofs.StayLaws.{stays-past, stays-to, stays-whole}
+use Rattle.std.proofs.Common.{◌≡◌, arith, refl, eqb, get_or, false, rules, tests, length}
+use Rattle.cppfilt_run.specs.Staying.{begins_line, stays}
+use Rattle.cppfilt_run.proofs.OwedLaws.{nil-from_length}
+use Rattle.cppfilt_run.proofs.StayLaws.{stays-one}
 use Rattle.cppfilt_run.proofs.staying.underscore_line.Goals as goal
 
-pub loop-count-init : goal.loop-count-init
+pub staying_chunks-requires-clause-first : goal.staying_chunks-requires-clause-first
+staying_chunks-requires-clause-first c =
+    let other : eqb (get_or c.args.bytes.now 0 0) 95 ≡ false = search (rules, tests) in
+    stays-one c.args.bytes.now other
+
+-- no byte is there
+pub returns-then-is_empty : goal.returns-then-is_empty
 unfolding stays
-loop-count-init c = (omega arith, refl)
+returns-then-is_empty c =
+    let none : length c.args.bytes.now ≡ 0 = search (rules, tests) in
+    rw (nil-from_length c.args.bytes.now none) refl
 
-pub loop-count-preserved : goal.loop-count-preserved
-loop-count-preserved c =
-    let bytes = c.args.bytes.now in
-    let front = c.loop-count.front in
-    let at = front + c.in-Some.count in
-    let rest : take (length bytes - front) (drop front bytes) ≡ drop front bytes = grind (arith, common_steps) in
-    let size : length (drop front bytes) ≡ length bytes - front = grind (arith, common_steps) in
-    let found : before 95 (drop front bytes) ≡ c.in-Some.count = rw (← rest) c.in-Some.ensures.0 in
-    let near : c.in-Some.count < length (drop front bytes) = rw (← rest) c.in-Some.ensures.1 in
-    let within : at < length bytes = omega arith in
-    let stay = stays-to bytes front c.in-Some.count c.loop-count.invariant.1 found in
-    (omega arith, stays-past bytes at within stay (sym c.if-begins_line.ensures))
-
-pub returns-then-begins_line : goal.returns-then-begins_line
-returns-then-begins_line c =
-    let bytes = c.args.bytes.now in
-    let front = c.loop-count.front in
-    let rest : take (length bytes - front) (drop front bytes) ≡ drop front bytes = grind (arith, common_steps) in
-    let size : length (drop front bytes) ≡ length bytes - front = grind (arith, common_steps) in
-    let found : before 95 (drop front bytes) ≡ c.in-Some.count = rw (← rest) c.in-Some.ensures.0 in
-    let near : c.in-Some.count < length (drop front bytes) = rw (← rest) c.in-Some.ensures.1 in
-    let stay = stays-to bytes front c.in-Some.count c.loop-count.invariant.1 found in
-    (omega arith, stay, sym c.if-begins_line.ensures)
-
-pub returns : goal.returns
-returns c =
-    let bytes = c.args.bytes.now in
-    let front = c.loop-count.front in
-    let rest : take (length bytes - front) (drop front bytes) ≡ drop front bytes = grind (arith, common_steps) in
-    stays-whole bytes front c.loop-count.invariant.1 (rw (← rest) c.in_default.ensures)
+-- the first is `_`
+pub returns-then-bytes-eq-UNDERSCORE : goal.returns-then-bytes-eq-UNDERSCORE
+unfolding stays begins_line
+returns-then-bytes-eq-UNDERSCORE c = (omega arith, refl, refl)

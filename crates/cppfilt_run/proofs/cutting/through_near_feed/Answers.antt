@@ -1,0 +1,43 @@
+use Rattle.std.proofs.Common.{◌≡◌, ◌<◌, ◌≤◌, Bool, true, false, cond, ltb, eqb, not, List, ℕ, length, refl, sym, ◌∙◌}
+use Rattle.std.proofs.Common.{arith, rules, tests, Some, None, MatchOption}
+use Rattle.std.proofs.lemmas.Iterator.{YieldsList-from_slice}
+use Rattle.std.proofs.lemmas.Iterator.Search.{position_from_yields_List}
+use Rattle.std.proofs.lemmas.List.Sums.{prefix_len-le-length}
+use Rattle.std.specs.Prelude.{Option}
+use Rattle.cppfilt_lines.specs.Lines.{before_feed}
+use Rattle.cppfilt_run.proofs.cutting.through_near_feed.Goals as goal
+
+-- what a search for a line feed says
+abbrev At : List ℕ → Option ℕ → Type 0
+At xs o = MatchOption o (before_feed xs ≡ length xs) (λ at. (before_feed xs ≡ at) × (at < length xs))
+
+found : (xs : List ℕ) (t : Bool) → ltb (before_feed xs) (length xs) ≡ t → At xs (cond t (Some (before_feed xs)) None)
+found xs true e = (refl, search (rules, tests))
+found xs false e =
+    let le = prefix_len-le-length (λ b. not (eqb b 10)) xs in
+    let ge : length xs ≤ before_feed xs = search (rules, tests) in
+    omega arith
+
+at_is : (xs : List ℕ) (o p : Option ℕ) → o ≡ p → At xs p → At xs o
+at_is xs o p e h = rw e h
+
+pub overflow_add-result : goal.overflow_add-result
+overflow_add-result c =
+    let room = c.iter.ensures.bound in
+    let within = rw c.in-Some.is at c.position.ensures.bound in
+    omega arith
+
+pub returns-in-Some : goal.returns-in-Some
+returns-in-Some c =
+    let xs = c.args.bytes.now in
+    let e = position_from_yields_List (λ b. eqb b 10) _ _ _ c.position.ensures.ran (YieldsList-from_slice xs cc)
+    (λ x b q k. search (rules, tests)) in
+    let h = at_is xs (Some c.in-Some.at) _ (sym c.in-Some.is ∙ e) (found xs (ltb (before_feed xs) (length xs)) refl) in
+    (omega arith, omega arith)
+
+pub returns-in-None : goal.returns-in-None
+returns-in-None c =
+    let xs = c.args.bytes.now in
+    let e = position_from_yields_List (λ b. eqb b 10) _ _ _ c.position.ensures.ran (YieldsList-from_slice xs cc)
+    (λ x b q k. search (rules, tests)) in
+    at_is xs None _ (sym c.in-None.is ∙ e) (found xs (ltb (before_feed xs) (length xs)) refl)
