@@ -6,7 +6,8 @@ use Rattle.std.proofs.lemmas.List.{get_or-take, length-take-le}
 use Rattle.std.proofs.Math.Seq.{take-add, take-suc, take-length}
 use Rattle.std.proofs.lemmas.Grind.{common_steps}
 use Rattle.std.specs.Prelude.{Option}
-use Rattle.std.proofs.lemmas.Bool.{true≢false}
+use Rattle.std.proofs.Math.Bool.{and_assoc, and-true, and-false}
+use Rattle.std.proofs.lemmas.Bool.{true≢false, not-true}
 use Rattle.std.proofs.lemmas.List.Sums.{fold-append}
 use Rattle.cppfilt_ends.specs.Moves.{Moves, Begins}
 use Rattle.cppfilt_ends.proofs.MoveLaws.{moves-more, begins-more}
@@ -21,18 +22,6 @@ use Rattle.cppfilt_run.proofs.OwedLaws.{due-completed, free-append}
 use Rattle.cppfilt_run.proofs.ShownLaws.{unnamed}
 
 -- ---- bytes behind bytes
-and_assoc : (a b c : Bool) → ((a && b) && c) ≡ (a && (b && c))
-and_assoc true b c = refl
-and_assoc false b c = refl
-
-and-true : (a : Bool) → (a && true) ≡ a
-and-true true = refl
-and-true false = refl
-
-and-false : (a : Bool) → (a && false) ≡ false
-and-false true = refl
-and-false false = refl
-
 begins-append : (p : Bool) (xs ys : List ℕ) → begins_line p (xs ++ ys) ≡ begins_line (begins_line p xs) ys
 unfolding begins_line
 begins-append p [] ys = refl
@@ -235,16 +224,12 @@ due-step o c b bs more false e types free other first stay ends ih =
     ∙ ih line free' (first-behind c b other first) stay' ends'
     ∙ append_assoc c (b ∷ []) (bs ++ due o more)
 
-not-first : (p : Bool) → not p ≡ true → p ≡ false
-not-first true e = absurd (true≢false (sym e))
-not-first false e = refl
-
 due-goes_on : (o : FilterOptions) (c xs more : List ℕ) → o.types ≡ false → before_feed c ≡ length c → Other c
     → stays (empty c) xs ≡ true → begins_line (empty c) xs ≡ true → LineStays o more c xs
 unfolding stays begins_line
 due-goes_on o c [] more types free other stay ends = rw (nil-from_empty c ends) refl
 due-goes_on o c (b ∷ bs) more types free other stay ends =
-    let first = not-first (empty c && eqb b 95) (left _ _ stay) in
+    let first = not-true (empty c && eqb b 95) (left _ _ stay) in
     due-step o c b bs more (eqb b 10) refl types free other first (right _ _ stay) ends
     (λ d f g h k. due-goes_on o d bs more types f g h k)
 
