@@ -17,54 +17,62 @@ use std::alloc::Global;
 /// holds no data, so this is no larger than `most`. It ties the readers of rows, which are written over any `Below`,
 /// into one recursion.
 #[derive(Clone, Copy)]
-pub struct Tied<F0, F1, F2, F3, F4, F5> {
+pub struct Tied<ReadType, ReadExpression, ReadArgument, ReadName, ReadEncoding, ReadMangledName> {
+    /// More levels than any row below has left.
     pub most: Depth,
-    pub type_handle: F0,
-    pub expression: F1,
-    pub template_arg: F2,
-    pub name: F3,
-    pub encoding: F4,
-    pub mangled_name: F5,
+    /// Types.
+    pub type_handle: ReadType,
+    /// Expressions.
+    pub expression: ReadExpression,
+    /// Template arguments.
+    pub template_arg: ReadArgument,
+    /// Names.
+    pub name: ReadName,
+    /// Functions, variables, and entities that the compiler makes.
+    pub encoding: ReadEncoding,
+    /// Mangled names.
+    pub mangled_name: ReadMangledName,
 }
 
-impl<F0, F1, F2, F3, F4, F5> Below for Tied<F0, F1, F2, F3, F4, F5>
+impl<ReadType, ReadExpression, ReadArgument, ReadName, ReadEncoding, ReadMangledName> Below
+    for Tied<ReadType, ReadExpression, ReadArgument, ReadName, ReadEncoding, ReadMangledName>
 where
-    F0: for<'b> Fn(
+    ReadType: for<'b> Fn(
         Global,
         Depth,
         &mut SubstitutionTable,
         IndexStr<'b>,
     ) -> Result<(TypeHandle, IndexStr<'b>)>
         + Copy,
-    F1: for<'b> Fn(
+    ReadExpression: for<'b> Fn(
         Global,
         Depth,
         &mut SubstitutionTable,
         IndexStr<'b>,
     ) -> Result<(Expression, IndexStr<'b>)>
         + Copy,
-    F2: for<'b> Fn(
+    ReadArgument: for<'b> Fn(
         Global,
         Depth,
         &mut SubstitutionTable,
         IndexStr<'b>,
     ) -> Result<(TemplateArg, IndexStr<'b>)>
         + Copy,
-    F3: for<'b> Fn(
+    ReadName: for<'b> Fn(
         Global,
         Depth,
         &mut SubstitutionTable,
         IndexStr<'b>,
     ) -> Result<(Name, IndexStr<'b>)>
         + Copy,
-    F4: for<'b> Fn(
+    ReadEncoding: for<'b> Fn(
         Global,
         Depth,
         &mut SubstitutionTable,
         IndexStr<'b>,
     ) -> Result<(Encoding, IndexStr<'b>)>
         + Copy,
-    F5: for<'b> Fn(
+    ReadMangledName: for<'b> Fn(
         Global,
         Depth,
         &mut SubstitutionTable,
@@ -75,13 +83,17 @@ where
     ghost most = { λ s. s.most.levels };
 
     ghost can = { λ s.
-        MayRead tree_of_type_handle Row.type_handle (F0.pre s.type_handle) (F0.post s.type_handle) s.most.levels
-        × MayRead tree_of_expression Row.expression (F1.pre s.expression) (F1.post s.expression) s.most.levels
-        × MayRead tree_of_template_arg Row.template_arg (F2.pre s.template_arg) (F2.post s.template_arg) s.most.levels
-        × MayRead tree_of_name Row.name (F3.pre s.name) (F3.post s.name) s.most.levels
-        × MayRead tree_of_encoding Row.encoding (F4.pre s.encoding) (F4.post s.encoding) s.most.levels
-        × MayRead tree_of_mangled_name Row.mangled_name (F5.pre s.mangled_name) (F5.post s.mangled_name)
-        s.most.levels };
+        MayRead tree_of_type_handle Row.type_handle (ReadType.pre s.type_handle) (ReadType.post s.type_handle)
+        s.most.levels
+        × MayRead tree_of_expression Row.expression (ReadExpression.pre s.expression) (ReadExpression.post s.expression)
+        s.most.levels
+        × MayRead tree_of_template_arg Row.template_arg (ReadArgument.pre s.template_arg) (ReadArgument.post s.template_arg)
+        s.most.levels
+        × MayRead tree_of_name Row.name (ReadName.pre s.name) (ReadName.post s.name) s.most.levels
+        × MayRead tree_of_encoding Row.encoding (ReadEncoding.pre s.encoding) (ReadEncoding.post s.encoding)
+        s.most.levels
+        × MayRead tree_of_mangled_name Row.mangled_name (ReadMangledName.pre s.mangled_name)
+        (ReadMangledName.post s.mangled_name) s.most.levels };
 
     fn type_handle<'b>(
         self,

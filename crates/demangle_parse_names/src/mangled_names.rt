@@ -23,7 +23,7 @@ use demangle_table::SubstitutionTable;
 use demangle_text::{IndexStr, Result, consume, parse_unsigned};
 use std::alloc::Global;
 
-/// A whole mangled name. One or two underscores and `Z` stand before an encoding, three or four and `Z` before that of a
+/// A whole mangled name. One or two underscores stand before the `Z` of an encoding, three or four before that of a
 /// block's function. ABI section 5.1.2; blocks, global constructors and types alone are additions of compilers.
 ///
 /// ```text

@@ -30,23 +30,23 @@ pub(crate) enum Part<'subs> {
 /// Functions for the lines through which recursion goes, and the place at which they are called. They are passed by
 /// name, so that they may be called by lines of other crates.
 #[derive(Clone, Copy)]
-pub(crate) struct Tied<'subs, F0, F1> {
+pub(crate) struct Tied<'subs, PrintNamed, PrintPart> {
     pub depth: Depth<'subs>,
-    pub named: F0,
-    pub part: F1,
+    pub named: PrintNamed,
+    pub part: PrintPart,
 }
 
-impl<'subs, W, F0, F1> Below<'subs, W> for Tied<'subs, F0, F1>
+impl<'subs, W, PrintNamed, PrintPart> Below<'subs, W> for Tied<'subs, PrintNamed, PrintPart>
 where
     W: DemangleWrite,
-    F0: for<'prev, 'w> Fn(
+    PrintNamed: for<'prev, 'w> Fn(
         Named<'subs>,
         Option<ArgScopeStack<'prev, 'subs>>,
         &mut DemangleContext<'subs, 'w, W>,
         Depth<'subs>,
     )
         + Copy,
-    F1: for<'prev, 'w> Fn(
+    PrintPart: for<'prev, 'w> Fn(
         Part<'subs>,
         Option<ArgScopeStack<'prev, 'subs>>,
         &mut DemangleContext<'subs, 'w, W>,
@@ -57,8 +57,8 @@ where
     ghost at = { λ s. place_of s.depth };
 
     ghost can = { λ s.
-        MayPrint W.seen DoesNamed (F0.pre s.named) (F0.post s.named) (place_of s.depth).left
-        × MayPrint W.seen DoesPart (F1.pre s.part) (F1.post s.part) (place_of s.depth).left };
+        MayPrint W.seen DoesNamed (PrintNamed.pre s.named) (PrintNamed.post s.named) (place_of s.depth).left
+        × MayPrint W.seen DoesPart (PrintPart.pre s.part) (PrintPart.post s.part) (place_of s.depth).left };
 
     fn level(self) -> u32 {
         self.depth.level()
@@ -72,7 +72,10 @@ where
         self.depth.input()
     }
 
-    fn enter(self, ctx: &mut DemangleContext<'subs, '_, W>) -> Option<Tied<'subs, F0, F1>> {
+    fn enter(
+        self,
+        ctx: &mut DemangleContext<'subs, '_, W>,
+    ) -> Option<Tied<'subs, PrintNamed, PrintPart>> {
         match self.depth.enter(ctx) {
             None => None,
             Some(depth) => Some(Tied {
