@@ -13,10 +13,7 @@ use demangle_text::ParseOptions;
 fn is_set(matches: &ArgMatches<'_>, flag: &str) -> bool
     ensures { result ≡ is_set flag.now (rows_of (found_of matches.now)) }
 {
-    match matches.get_str(flag) {
-        Some(value) => value == "true",
-        None => false,
-    }
+    matches.get_str(flag).is_some_and(|value| value == "true")
 }
 
 /// How names are read, under a limit where one is given.

@@ -15,7 +15,7 @@ use Rattle.cppfilt_lines.specs.Due.{shown_line}
 use Rattle.cppfilt_lines.specs.Lines.{body, ending}
 use Rattle.cppfilt_lines.specs.Shown.{answered, is_asked, is_named, reading_text, refused, shown}
 use Rattle.cppfilt_lines.specs.declared.options.FilterOptions.{FilterOptions}
-use Rattle.cppfilt_lines.proofs.LineLaws.{body-ending, shown-asked, shown-kept}
+use Rattle.cppfilt_lines.proofs.LineLaws.{shown-asked}
 use Rattle.cppfilt_run.specs.Gathered.{IsGathered}
 
 -- no name begins with another byte than `_`
@@ -23,16 +23,7 @@ pub unnamed : (b : List ℕ) → eqb (get_or b 0 0) 95 ≡ false → is_named b 
 unnamed [] other = refl
 unnamed (x ∷ xs) other = let e : eqb 95 x ≡ false = search (rules, tests) in rw e refl
 
--- ---- a line
--- its bytes are not asked
-pub shown_line-kept : (o : FilterOptions) (line : List ℕ) (n : ℕ) → body line ≡ take n line
-    → is_asked o (take n line) ≡ false → shown_line o line ≡ line
-unfolding shown_line
-shown_line-kept o line n e unasked =
-    ap (λ b. shown o b ++ ending line) e ∙ ap (λ b. b ++ ending line) (shown-kept o (take n line) unasked)
-    ∙ ap (λ b. b ++ ending line) (sym e) ∙ body-ending line
-
--- its bytes and its ending
+-- a line's bytes and its ending
 pub shown_line-parts : (o : FilterOptions) (line : List ℕ) (n : ℕ) → body line ≡ take n line → n ≤ length line
     → shown_line o line ≡ shown o (take n line) ++ take (length line - n) (drop n line)
 unfolding shown_line

@@ -52,10 +52,10 @@ fn through_near_feed(bytes: &[u8]) -> Option<usize>
     ensures { MatchOption result (before_feed bytes.now ≡ length bytes.now)
         (λ end. (before_feed bytes.now + 1 ≡ end) × (end ≤ length bytes.now)) }
 {
-    match bytes.iter().position(|byte| *byte == LINE_FEED) {
-        Some(at) => Some(at + 1),
-        None => None,
-    }
+    bytes
+        .iter()
+        .position(|byte| *byte == LINE_FEED)
+        .map(|at| at + 1)
 }
 
 /// How many bytes there are through the first line feed; `None` where there is no line feed.
@@ -64,8 +64,5 @@ pub(crate) fn through_line_feed(bytes: &[u8]) -> Option<usize>
         (λ end. (before_feed bytes.now + 1 ≡ end) × (end ≤ length bytes.now)) }
 {
     let clear = clear_chunks(bytes);
-    match through_near_feed(&bytes[clear..]) {
-        Some(end) => Some(clear + end),
-        None => None,
-    }
+    through_near_feed(&bytes[clear..]).map(|end| clear + end)
 }

@@ -8,7 +8,7 @@ ghost use Rattle.cppfilt_run.specs.Owed.{ahead};
 ghost use Rattle.cppfilt_run.specs.Staying.{begins_line, stays};
 
 use crate::cutting::{body_len, through_line_feed};
-use crate::shown::{emit_asked, is_asked};
+use crate::shown::emit_shown;
 use crate::staying::staying_len;
 use cppfilt_ends::ends::Sink;
 use cppfilt_ends::output::{GATHERED, emit, flush};
@@ -31,11 +31,7 @@ fn emit_line<W: Sink>(
         (pending.old.items ++ shown_line options.now line.now) pending.new.items }
 {
     let end = body_len(line);
-    let bytes = &line[..end];
-    if !is_asked(options, bytes) {
-        return emit(output, pending, line);
-    }
-    emit_asked(alloc, options, output, pending, bytes)?;
+    emit_shown(alloc, options, output, pending, &line[..end])?;
     emit(output, pending, &line[end..])
 }
 
@@ -51,7 +47,7 @@ fn emit_last<W: Sink>(
     ensures { Gives (W.written output.old) (W.written output.new) (W.faults output.old) (W.faults output.new) result
         (pending.old.items ++ due options.now held.now) pending.new.items }
 {
-    if held.len() == 0 {
+    if held.is_empty() {
         return Ok(());
     }
     emit_line(alloc, options, output, pending, held)

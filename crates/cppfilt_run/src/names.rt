@@ -7,7 +7,7 @@ ghost use Rattle.cppfilt_lines.specs.Shown.{shown};
 ghost use Rattle.cppfilt_run.specs.Outcome.{Finished};
 
 use crate::filter::status_of;
-use crate::shown::{emit_asked, is_asked};
+use crate::shown::emit_shown;
 use crate::status::Status;
 use cppfilt_ends::ends::Sink;
 use cppfilt_ends::output::{emit, flush};
@@ -63,21 +63,4 @@ fn emit_name<W: Sink>(
 {
     emit_shown(alloc, options, output, pending, name)?;
     emit(output, pending, b"\n")
-}
-
-/// Gives on bytes as they are shown.
-fn emit_shown<W: Sink>(
-    alloc: Global,
-    options: &FilterOptions,
-    output: &mut W,
-    pending: &mut Vec<u8>,
-    bytes: &[u8],
-) -> Result<(), SinkFault>
-    ensures { Gives (W.written output.old) (W.written output.new) (W.faults output.old) (W.faults output.new) result
-        (pending.old.items ++ shown options.now bytes.now) pending.new.items }
-{
-    if !is_asked(options, bytes) {
-        return emit(output, pending, bytes);
-    }
-    emit_asked(alloc, options, output, pending, bytes)
 }

@@ -1,6 +1,6 @@
 //! What the bytes of a line become: their text where they are asked and have one.
 
-ghost use Rattle.std.specs.Prelude.{◌≡◌, ℕ, ◌==◌, List, ◌++◌, slice_index, true};
+ghost use Rattle.std.specs.Prelude.{◌≡◌, ℕ, List, ◌++◌, true};
 ghost use Rattle.cppfilt_ends.specs.Moves.{Gives};
 ghost use Rattle.cppfilt_run.specs.Refused.{IsRefused};
 ghost use Rattle.cppfilt_lines.specs.Shown.{is_named, is_asked, refused, shown};
@@ -16,43 +16,44 @@ use std::alloc::Global;
 /// A line with more bytes than this before its ending is never asked for its text.
 const LINE_LIMIT: usize = 1_048_576;
 
-/// Whether there is a first byte with which linker names begin.
-fn begins_so(bytes: &[u8]) -> bool
-    ensures { result ≡ (slice_index bytes.now 0 == 95) }
-{
-    matches!(bytes, [b'_', ..])
-}
-
-/// Whether a linker name begins so.
+/// Whether a linker name begins so. Its first byte is tested first, so that other lines cost one test.
 fn is_named(bytes: &[u8]) -> bool
     ensures { result ≡ is_named bytes.now }
 {
-    if !begins_so(bytes) {
-        return false;
-    }
-    begins_name(bytes)
-}
-
-/// Whether a linker name begins so, judged by all of its beginning.
-fn begins_name(bytes: &[u8]) -> bool
-    ensures { result ≡ is_named bytes.now }
-{
-    bytes.starts_with(b"_Z")
-        || bytes.starts_with(b"__Z")
-        || bytes.starts_with(b"___Z")
-        || bytes.starts_with(b"____Z")
-        || bytes.starts_with(b"_GLOBAL_")
+    matches!(bytes, [b'_', ..])
+        && (bytes.starts_with(b"_Z")
+            || bytes.starts_with(b"__Z")
+            || bytes.starts_with(b"___Z")
+            || bytes.starts_with(b"____Z")
+            || bytes.starts_with(b"_GLOBAL_"))
 }
 
 /// Whether these bytes of a line are asked for their text.
-pub(crate) fn is_asked(options: &FilterOptions, bytes: &[u8]) -> bool
+fn is_asked(options: &FilterOptions, bytes: &[u8]) -> bool
     ensures { result ≡ is_asked options.now bytes.now }
 {
     bytes.len() <= LINE_LIMIT && (options.types || is_named(bytes))
 }
 
+/// Gives on bytes as they are shown.
+pub(crate) fn emit_shown<W: Sink>(
+    alloc: Global,
+    options: &FilterOptions,
+    output: &mut W,
+    pending: &mut Vec<u8>,
+    bytes: &[u8],
+) -> Result<(), SinkFault>
+    ensures { Gives (W.written output.old) (W.written output.new) (W.faults output.old) (W.faults output.new) result
+        (pending.old.items ++ shown options.now bytes.now) pending.new.items }
+{
+    if is_asked(options, bytes) {
+        return emit_asked(alloc, options, output, pending, bytes);
+    }
+    emit(output, pending, bytes)
+}
+
 /// Gives on what bytes become that are asked: their text, or they themselves, with the cause where causes are shown.
-pub(crate) fn emit_asked<W: Sink>(
+fn emit_asked<W: Sink>(
     alloc: Global,
     options: &FilterOptions,
     output: &mut W,

@@ -1,5 +1,6 @@
-use Rattle.std.proofs.Common.{◌≡◌, ◌<◌, ◌≤◌, Bool, true, false, cond, ltb, eqb, not, List, ℕ, length, refl, sym, ◌∙◌}
-use Rattle.std.proofs.Common.{arith, rules, tests, Some, None, MatchOption}
+use Rattle.std.proofs.Common.{◌≡◌, ◌<◌, ◌≤◌, Bool, true, false, cond, ltb, eqb, not, List, ℕ, length, refl}
+use Rattle.std.proofs.Common.{◌+◌, arith, rules, tests, Some, None, MatchOption}
+use Rattle.std.specs.Option.{IsSomeAnd}
 use Rattle.std.proofs.lemmas.Iterator.{YieldsList-from_slice}
 use Rattle.std.proofs.lemmas.Iterator.Search.{position_from_yields_List}
 use Rattle.std.proofs.lemmas.List.Sums.{prefix_len-le-length}
@@ -21,23 +22,20 @@ found xs false e =
 at_is : (xs : List ℕ) (o p : Option ℕ) → o ≡ p → At xs p → At xs o
 at_is xs o p e h = rw e h
 
-pub overflow_add-result : goal.overflow_add-result
-overflow_add-result c =
-    let room = c.iter.ensures.bound in
-    let within = rw c.in-Some.is at c.position.ensures.bound in
-    omega arith
+-- and what lies through it
+abbrev Through : List ℕ → Option ℕ → Type 0
+Through xs o = MatchOption o (before_feed xs ≡ length xs) (λ end. (before_feed xs + 1 ≡ end) × (end ≤ length xs))
 
-pub returns-in-Some : goal.returns-in-Some
-returns-in-Some c =
+through : {P : ℕ → ℕ → Type 0} (xs : List ℕ) (o p : Option ℕ) → At xs o
+    → MatchOption o (p ≡ None) (λ at. IsSomeAnd p (P at)) → ((at end : ℕ) → P at end → end ≡ at + 1) → Through xs p
+through xs None p h m next = rw m h
+through xs (Some at) (Some end) h m next = let e = next at end m in (omega arith, omega arith)
+through xs (Some at) None h m next = absurd m
+
+pub returns : goal.returns
+returns c =
     let xs = c.args.bytes.now in
     let e = position_from_yields_List (λ b. eqb b 10) _ _ _ c.position.ensures.ran (YieldsList-from_slice xs cc)
     (λ x b q k. search (rules, tests)) in
-    let h = at_is xs (Some c.in-Some.at) _ (sym c.in-Some.is ∙ e) (found xs (ltb (before_feed xs) (length xs)) refl) in
-    (omega arith, omega arith)
-
-pub returns-in-None : goal.returns-in-None
-returns-in-None c =
-    let xs = c.args.bytes.now in
-    let e = position_from_yields_List (λ b. eqb b 10) _ _ _ c.position.ensures.ran (YieldsList-from_slice xs cc)
-    (λ x b q k. search (rules, tests)) in
-    at_is xs None _ (sym c.in-None.is ∙ e) (found xs (ltb (before_feed xs) (length xs)) refl)
+    let h = at_is xs c.position.result _ e (found xs (ltb (before_feed xs) (length xs)) refl) in
+    through xs c.position.result c.map.result h c.map.ensures.cases (λ at end q. search rules)

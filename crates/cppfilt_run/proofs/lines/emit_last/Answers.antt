@@ -5,9 +5,9 @@ use Rattle.cppfilt_run.proofs.OwedLaws.{due-nothing, nil-from_length}
 use Rattle.cppfilt_run.proofs.lines.emit_last.Goals as goal
 
 -- nothing is left
-pub returns-then-held-eq0 : goal.returns-then-held-eq0
-returns-then-held-eq0 g c =
-    let none = nil-from_length c.args.held.now c.if-held-eq0.true in
+pub returns-then-is_empty : goal.returns-then-is_empty
+returns-then-is_empty g c =
+    let none = nil-from_length c.args.held.now (search rules) in
     (refl, rw (due-nothing c.args.options.now c.args.pending.now.items c.args.held.now none) (moves-none _ _))
 
 -- a last line is
