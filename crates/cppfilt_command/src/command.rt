@@ -11,14 +11,16 @@ use std::alloc::{AllocError, Global};
 const ABOUT: &str = "\
 Show C++ linker names as the names in the source.
 
-Standard input is copied to standard output, line by line. A line that is a linker name, whole,
-becomes its text: a name of the Itanium C++ ABI, as GCC and Clang make them. Any other line stays
-as it is.";
+Standard input is copied to standard output, line by line. A line that consists
+of one linker name of the Itanium C++ ABI, as GCC and Clang make them, becomes
+its text. Any other line stays as it is.";
 
 /// What stands behind the options.
 const AFTER: &str = "\
-A line is taken for a name where it begins with _Z, __Z, ___Z, ____Z or _GLOBAL_, or with --types
-always, and has at most 1048576 bytes. A name that can't be read or shown stays as it is.
+A line or NAME of at most 1048576 bytes is taken for a linker name where it
+begins with _Z, __Z, ___Z, ____Z or _GLOBAL_; with --types each is. One that
+can't be read or shown stays as it is. A crafted name may take very long, since
+parts of a name that fail are read again; a lower --parse-limit bounds this.
 
 Examples:
   Show a name:
@@ -96,13 +98,14 @@ fn with_flags<'a>(alloc: Global, command: Command<'a>) -> Result<Command<'a>, Al
             alloc,
             "types",
             't',
-            "Take every line for a name, so that encoded types are shown too",
+            "Take each line or NAME for a linker name, so that\n\
+             encoded types are shown too",
         ))?
         .arg(flag(
             alloc,
             "why",
             'w',
-            "Put a tab and the cause behind a name that has no text",
+            "Put a tab and the cause behind a name with no text",
         ))
 }
 
@@ -114,22 +117,29 @@ fn with_numbers<'a>(alloc: Global, command: Command<'a>) -> Result<Command<'a>, 
         .arg(number(
             alloc,
             "parse-limit",
-            "Levels of nesting a name may have, 1 to 1024 [default: 96]",
+            "Levels of nesting a name may have, 1 to 1024\n\
+             [default: 96]; raise it where --why says \"too much\n\
+             recursion when demangling\"",
         ))?
         .arg(number(
             alloc,
             "print-limit",
-            "Levels of nesting its text may have, 1 to 1024 [default: 128]",
+            "Levels of nesting its text may have, 1 to 1024\n\
+             [default: 128]; raise it where --why says \"too much\n\
+             recursion when printing\"",
         ))?
         .arg(number(
             alloc,
             "max-output",
-            "Bytes its text may have, 1 to 1073741824 [default: any number]",
+            "Bytes its text may have, 1 to 1073741824\n\
+             [default: any number]",
         ))?
         .arg(number(
             alloc,
             "sample",
-            "Demangle N made-up names, 1 to 100000, and count their texts",
+            "Self-test: demangle N made-up names, 1 to 100000,\n\
+             and write `names N read R bytes B`: R of them have\n\
+             a text, and these texts have B bytes together",
         ))
 }
 

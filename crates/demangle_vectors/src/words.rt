@@ -236,9 +236,9 @@ pub(crate) const MISTAKES: [(&str, &str); 22] = [
 pub(crate) const HELP: &str = "\
 Show C++ linker names as the names in the source.
 
-Standard input is copied to standard output, line by line. A line that is a linker name, whole,
-becomes its text: a name of the Itanium C++ ABI, as GCC and Clang make them. Any other line stays
-as it is.
+Standard input is copied to standard output, line by line. A line that consists
+of one linker name of the Itanium C++ ABI, as GCC and Clang make them, becomes
+its text. Any other line stays as it is.
 
 Usage: cppfilt [OPTIONS] [NAME]...
 
@@ -249,16 +249,26 @@ Options:
   -p, --no-params           Leave out the parameters of functions
   -r, --no-return-type      Leave out the return types of function templates
   -l, --hide-literal-types  Leave out the types of literals
-  -t, --types               Take every line for a name, so that encoded types are shown too
-  -w, --why                 Put a tab and the cause behind a name that has no text
-      --parse-limit <N>     Levels of nesting a name may have, 1 to 1024 [default: 96]
-      --print-limit <N>     Levels of nesting its text may have, 1 to 1024 [default: 128]
-      --max-output <N>      Bytes its text may have, 1 to 1073741824 [default: any number]
-      --sample <N>          Demangle N made-up names, 1 to 100000, and count their texts
+  -t, --types               Take each line or NAME for a linker name, so that
+                            encoded types are shown too
+  -w, --why                 Put a tab and the cause behind a name with no text
+      --parse-limit <N>     Levels of nesting a name may have, 1 to 1024
+                            [default: 96]; raise it where --why says \"too much
+                            recursion when demangling\"
+      --print-limit <N>     Levels of nesting its text may have, 1 to 1024
+                            [default: 128]; raise it where --why says \"too much
+                            recursion when printing\"
+      --max-output <N>      Bytes its text may have, 1 to 1073741824
+                            [default: any number]
+      --sample <N>          Self-test: demangle N made-up names, 1 to 100000,
+                            and write `names N read R bytes B`: R of them have
+                            a text, and these texts have B bytes together
   -h, --help                Print help
 
-A line is taken for a name where it begins with _Z, __Z, ___Z, ____Z or _GLOBAL_, or with --types
-always, and has at most 1048576 bytes. A name that can't be read or shown stays as it is.
+A line or NAME of at most 1048576 bytes is taken for a linker name where it
+begins with _Z, __Z, ___Z, ____Z or _GLOBAL_; with --types each is. One that
+can't be read or shown stays as it is. A crafted name may take very long, since
+parts of a name that fail are read again; a lower --parse-limit bounds this.
 
 Examples:
   Show a name:
