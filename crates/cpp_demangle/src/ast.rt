@@ -2,14 +2,14 @@
 
 pub use demangle_tree::{
     AbiTag, AbiTags, ArrayType, BareFunctionType, BaseUnresolvedName, BuiltinType, CallOffset,
-    ClassEnumType, CloneSuffix, CloneTypeIdentifier, ClosureTypeName, CtorDtorName, CvQualifiers,
-    DataMemberPrefix, Decltype, DestructorName, Discriminator, Encoding, ExceptionSpec,
-    ExprPrimary, Expression, FoldExpr, FunctionParam, FunctionType, GetLeafName, GetTemplateArgs,
-    GlobalCtorDtor, Identifier, Initializer, IsCtorDtorConversion, LambdaSig, LeafName, LocalName,
-    MangledName, MemberName, Name, NestedName, NonSubstitution, Number, NvOffset, OperatorName,
-    ParametricBuiltinType, PointerToMemberType, Prefix, PrefixHandle, QualifiedBuiltin,
-    ResourceName, SeqId, SimpleId, SourceName, SpecialName, SubobjectExpr, Substitutable,
-    Substitution, SubstitutionTable, TemplateArg, TemplateArgs, TemplateParam,
+    ClassEnumType, CloneSuffix, CloneTypeIdentifier, ClosureTypeName, CopyComponent, CtorDtorName,
+    CvQualifiers, DataMemberPrefix, Decltype, DestructorName, Discriminator, Encoding,
+    ExceptionSpec, ExprPrimary, Expression, FoldExpr, FunctionParam, FunctionType, GetLeafName,
+    GetTemplateArgs, GlobalCtorDtor, Identifier, Initializer, IsCtorDtorConversion, LambdaSig,
+    LeafName, LocalName, MangledName, MemberName, Name, NestedName, NonSubstitution, Number,
+    NvOffset, OperatorName, ParametricBuiltinType, PointerToMemberType, Prefix, PrefixHandle,
+    QualifiedBuiltin, ResourceName, SeqId, SimpleId, SourceName, SpecialName, SubobjectExpr,
+    Substitutable, Substitution, SubstitutionTable, TemplateArg, TemplateArgs, TemplateParam,
     TemplateTemplateParam, TemplateTemplateParamHandle, TypeHandle, TypeNode, UnnamedTypeName,
     UnqualifiedName, UnresolvedName, UnresolvedQualifierLevel, UnresolvedType,
     UnresolvedTypeHandle, UnscopedName, UnscopedTemplateName, UnscopedTemplateNameHandle, VOffset,
@@ -37,4 +37,4 @@ pub use demangle_scope::{
     ArgScopeStack, DemangleContext, DemangleFlags, InnerBarrier, InnerItem, ScopeItem,
     scope_in_arg, scope_leaf_name, scope_push, scope_template_arg,
 };
-pub use demangle_text::{IndexStr, consume, parse_number};
+pub use demangle_text::{IndexStr, consume, parse_number, parse_unsigned};

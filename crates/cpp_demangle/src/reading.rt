@@ -12,6 +12,7 @@ use std::alloc::Global;
 
 /// The tree of the name at the front, its components, and what is left behind it. Each refusal is the reading's, or
 /// `OutOfMemory`.
+#[inline(always)]
 pub(crate) fn read_front<'a>(
     alloc: Global,
     input: &'a [u8],
@@ -31,6 +32,7 @@ pub(crate) fn read_front<'a>(
 }
 
 /// The tree of the name and its components. `UnexpectedText` comes where bytes are left behind it, too.
+#[inline(always)]
 pub(crate) fn read_whole(
     alloc: Global,
     input: &[u8],

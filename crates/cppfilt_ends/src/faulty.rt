@@ -23,6 +23,8 @@ pub struct FaultySource {
 }
 
 impl FaultySource {
+    ghost use Rattle.cppfilt_ends.specs.Faulty.{source_calls, source_fails_at, source_step};
+
     /// A source whose bytes are these, of which a call moves at most `step`; the calls whose numbers are listed, from
     /// 0, fail. Each call after number 2^64 - 1 has that number too.
     pub fn new(bytes: Vec<u8>, step: usize, fail_at: Vec<u64>) -> FaultySource
@@ -30,7 +32,9 @@ impl FaultySource {
         ensures left { ⟦<FaultySource as Source>⟧.left result ≡ Some bytes.items }
         ensures taken { ⟦<FaultySource as Source>⟧.taken result ≡ 0 }
         ensures faults { ⟦<FaultySource as Source>⟧.faults result ≡ 0 }
-        ensures calls { (result.calls ≡ 0) × (result.step ≡ step) × (result.fail_at.items ≡ fail_at.items) }
+        ensures calls { source_calls result ≡ 0 }
+        ensures step { source_step result ≡ step }
+        ensures fails_at { source_fails_at result ≡ fail_at.items }
     {
         FaultySource {
             inner: VecSource::new(bytes),
@@ -43,6 +47,8 @@ impl FaultySource {
 }
 
 impl Source for FaultySource {
+    ghost use Rattle.cppfilt_ends.specs.Faulty.{source_calls, source_fails_at, source_step};
+
     ghost left = { λ source. ⟦<VecSource as Source>⟧.left source.inner };
 
     ghost faults = { λ source. source.faults };
@@ -58,10 +64,11 @@ impl Source for FaultySource {
             (⟦<FaultySource as Source>⟧.taken self.new) result }
         ensures cause { SourceCause (⟦<FaultySource as Source>⟧.faults self.old)
             (⟦<FaultySource as Source>⟧.faults self.new) result }
-        ensures fails { IsErr result ↔ Contains self.old.fail_at.items self.old.calls }
-        ensures step { IfOk result (λ n. n ≤ self.old.step) }
-        ensures calls { self.new.calls ≡ min (self.old.calls + 1) (2 ^ 64 - 1) }
-        ensures kept { (self.new.step ≡ self.old.step) × (self.new.fail_at.items ≡ self.old.fail_at.items) }
+        ensures fails { IsErr result ↔ Contains (source_fails_at self.old) (source_calls self.old) }
+        ensures step { IfOk result (λ n. n ≤ source_step self.old) }
+        ensures calls { source_calls self.new ≡ min (source_calls self.old + 1) (2 ^ 64 - 1) }
+        ensures kept { (source_step self.new ≡ source_step self.old)
+            × (source_fails_at self.new ≡ source_fails_at self.old) }
     {
         let call = self.calls;
         self.calls = call.saturating_add(1);
@@ -86,13 +93,17 @@ pub struct FaultySink {
 }
 
 impl FaultySink {
+    ghost use Rattle.cppfilt_ends.specs.Faulty.{sink_calls, sink_fails_at, sink_step};
+
     /// An empty sink, which takes at most `step` bytes a call; the calls whose numbers are listed, from 0, fail. Each
     /// call after number 2^64 - 1 has that number too.
     pub fn new(alloc: Global, step: usize, fail_at: Vec<u64>) -> FaultySink
         requires { 0 < step }
         ensures written { ⟦<FaultySink as Sink>⟧.written result ≡ Some [] }
         ensures faults { ⟦<FaultySink as Sink>⟧.faults result ≡ 0 }
-        ensures calls { (result.calls ≡ 0) × (result.step ≡ step) × (result.fail_at.items ≡ fail_at.items) }
+        ensures calls { sink_calls result ≡ 0 }
+        ensures step { sink_step result ≡ step }
+        ensures fails_at { sink_fails_at result ≡ fail_at.items }
     {
         FaultySink {
             bytes: Vec::new(alloc),
@@ -112,6 +123,8 @@ impl FaultySink {
 }
 
 impl Sink for FaultySink {
+    ghost use Rattle.cppfilt_ends.specs.Faulty.{sink_calls, sink_fails_at, sink_step};
+
     ghost written = { λ sink. Some sink.bytes.items };
 
     ghost faults = { λ sink. sink.faults };
@@ -124,10 +137,10 @@ impl Sink for FaultySink {
             (⟦<FaultySink as Sink>⟧.written self.new) result piece.now }
         ensures cause { SinkCause (⟦<FaultySink as Sink>⟧.faults self.old)
             (⟦<FaultySink as Sink>⟧.faults self.new) result }
-        ensures fails { IsErrOf result SinkFault.Failed ↔ Contains self.old.fail_at.items self.old.calls }
-        ensures step { IfOk result (λ n. n ≤ self.old.step) }
-        ensures calls { self.new.calls ≡ min (self.old.calls + 1) (2 ^ 64 - 1) }
-        ensures kept { (self.new.step ≡ self.old.step) × (self.new.fail_at.items ≡ self.old.fail_at.items) }
+        ensures fails { IsErrOf result SinkFault.Failed ↔ Contains (sink_fails_at self.old) (sink_calls self.old) }
+        ensures step { IfOk result (λ n. n ≤ sink_step self.old) }
+        ensures calls { sink_calls self.new ≡ min (sink_calls self.old + 1) (2 ^ 64 - 1) }
+        ensures kept { (sink_step self.new ≡ sink_step self.old) × (sink_fails_at self.new ≡ sink_fails_at self.old) }
     {
         let call = self.calls;
         self.calls = call.saturating_add(1);
