@@ -1,4 +1,4 @@
-//! The syntax tree of a name, its parser and its printer: what a tool works with that reads or prints parts of names.
+//! The syntax tree of a name, its parser and its printer: for tools that read or print parts of names.
 
 pub use demangle_tree::{
     AbiTag, AbiTags, ArrayType, BareFunctionType, BaseUnresolvedName, BuiltinType, CallOffset,

@@ -16,9 +16,9 @@ use std::alloc::Global;
 #[derive(Clone, Copy, Debug, PartialEq, Eq, thiserror::Error)]
 #[error("{}", self.text())]
 pub enum SymbolFault {
-    /// It couldn't be read. It holds no want of memory.
+    /// It couldn't be read. The error is never `OutOfMemory`.
     Read(Error),
-    /// It was read, but its tree couldn't be printed. It holds no want of memory.
+    /// It was read, but its tree couldn't be printed. The error is never `OutOfMemory`.
     Print(DemangleError),
     /// There was no memory.
     OutOfMemory,

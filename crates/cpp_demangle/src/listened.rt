@@ -16,7 +16,7 @@ use std::alloc::Global;
 /// Tells a listener the text of a linker name, whole, as it is printed, and the nodes in it: `demangle_symbol` without
 /// holding the text.
 ///
-/// Errors as those of `demangle_symbol`, and `Print` of `Sink`, which comes only where the listener's count of faults
+/// Errors are those of `demangle_symbol`, and `Print` of `Sink`, which comes only where the listener's count of faults
 /// rose; where it rose, no other answer comes. Where the name isn't read the listener was told nothing. After another
 /// error it was told the events before it, or a front of them, and then that nodes end, no more than stood open.
 pub fn structured_demangle_symbol<W: DemangleWrite>(

@@ -31,7 +31,7 @@ pub(crate) fn read_front<'a>(
     }
 }
 
-/// The tree of the name and its components. `UnexpectedText` comes where bytes are left behind it, too.
+/// The tree of the name and its components. `UnexpectedText` comes also where bytes are left behind it.
 #[inline(always)]
 pub(crate) fn read_whole(
     alloc: Global,

@@ -47,7 +47,7 @@ impl<T: RawBytes> Symbol<T> {
     ghost use Rattle.cpp_demangle.specs.Contents.{expanded, telling_of, telling_unshared};
     ghost use Rattle.cpp_demangle.specs.SymbolOf.{contents_of};
 
-    /// The symbol of a whole name, read under the options by default. Errors as those of `new_with_options`.
+    /// The symbol of a whole name, read under the default options. Errors are those of `new_with_options`.
     pub fn new(alloc: Global, raw: T) -> Result<Symbol<T>>
         ensures read { MatchResult result (λ s. IsRead 96 (T.bytes raw) [] (contents_of s))
             (IsRefused (whole (reading 96 (T.bytes raw)))) }
@@ -97,7 +97,7 @@ impl<T: RawBytes> Symbol<T> {
         &self.parsed
     }
 
-    /// The text of the name, printed under the options by default. Errors as those of `demangle_with_options`.
+    /// The text of the name, printed under the default options. Errors are those of `demangle_with_options`.
     pub fn demangle(&self, alloc: Global) -> std::result::Result<String, DemangleError>
         ensures text { IsText (telling_of default_options (contents_of self.now)) result }
         ensures shared { holds_param (expanded (contents_of self.now)) ≡ false
@@ -185,8 +185,8 @@ impl<'a> Symbol<&'a [u8]> {
     ghost use Rattle.cpp_demangle.specs.Contents.{same_contents};
     ghost use Rattle.cpp_demangle.specs.SymbolOf.{contents_of};
 
-    /// The symbol of the name at the front of the input, read under the options by default, and what is left behind
-    /// it. Errors as those of `with_tail_and_options`.
+    /// The symbol of the name at the front of the input, read under the default options, and what is left behind it.
+    /// Errors are those of `with_tail_and_options`.
     pub fn with_tail(alloc: Global, input: &'a [u8]) -> Result<(BorrowedSymbol<'a>, &'a [u8])>
         ensures { MatchResult result (λ x. IsRead 96 input.entry.now x.1.now (contents_of x.0))
             (IsRefused (reading 96 input.entry.now)) }
@@ -218,7 +218,7 @@ impl<'a> Symbol<&'a [u8]> {
         }
     }
 
-    /// A copy, equal to the symbol. `OutOfMemory` is the one refusal. `Clone` of the original.
+    /// A copy, equal to the symbol. `OutOfMemory` is the only refusal. `Clone` in the original.
     pub fn try_clone(&self, alloc: Global) -> Result<BorrowedSymbol<'a>>
         ensures copy { IfOk result (λ s. contents_of s ≡ contents_of self.now) }
         ensures equal { IfOk result (λ s. same_contents (contents_of s) (contents_of self.now) ≡ true) }
@@ -237,7 +237,7 @@ impl Symbol<Vec<u8>> {
     ghost use Rattle.cpp_demangle.specs.Contents.{same_contents};
     ghost use Rattle.cpp_demangle.specs.SymbolOf.{contents_of};
 
-    /// A copy, equal to the symbol. `OutOfMemory` is the one refusal. `Clone` of the original.
+    /// A copy, equal to the symbol. `OutOfMemory` is the only refusal. `Clone` in the original.
     pub fn try_clone(&self, alloc: Global) -> Result<OwnedSymbol>
         ensures copy { IfOk result (λ s. contents_of s ≡ contents_of self.now) }
         ensures equal { IfOk result (λ s. same_contents (contents_of s) (contents_of self.now) ≡ true) }

@@ -11,8 +11,8 @@ use demangle_scope::{
 use demangle_tree::{MangledName, SubstitutionTable};
 use std::alloc::Global;
 
-/// Tells a listener the text of a name, and the nodes in it. Errors as those of `Demangle::demangle`; where there is no
-/// memory for the context, the listener is told nothing.
+/// Tells a listener the text of a name, and the nodes in it. Errors are those of `Demangle::demangle`; where there is
+/// no memory for the context, the listener is told nothing.
 pub(crate) fn tell<'a, W: 'a + DemangleWrite>(
     alloc: Global,
     name: &'a MangledName,
@@ -35,7 +35,7 @@ pub(crate) fn tell<'a, W: 'a + DemangleWrite>(
     }
 }
 
-/// The text of a name. Errors as those of `tell`, but `Sink` never comes.
+/// The text of a name. Errors are those of `tell`, but `Sink` never comes.
 pub(crate) fn text<'a>(
     alloc: Global,
     name: &'a MangledName,

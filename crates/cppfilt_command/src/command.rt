@@ -15,7 +15,7 @@ Standard input is copied to standard output, line by line. A line that consists
 of one linker name of the Itanium C++ ABI, as GCC and Clang make them, becomes
 its text. Any other line stays as it is.";
 
-/// What stands behind the options.
+/// What stands below the options.
 const AFTER: &str = "\
 A line or NAME of at most 1048576 bytes is taken for a linker name where it
 begins with _Z, __Z, ___Z, ____Z or _GLOBAL_; with --types each is. One that

@@ -1,4 +1,4 @@
-//! The words of the command line of `cppfilt`: what they ask for, or what is to be written in place of it.
+//! The words of the command line of `cppfilt`: what they ask for, or what is to be written instead.
 #![tactic(auto)]
 
 mod command;

@@ -7,7 +7,7 @@ ghost use Rattle.cppfilt_command.specs.Asked.{is_good, number_in, number_upto};
 use clap::ArgMatches;
 use demangle_text::{IndexStr, parse_unsigned};
 
-/// The value of an option that is no number in its range.
+/// The value of an option that isn't a number in its range.
 #[derive(Clone, Copy)]
 pub(crate) struct BadNumber<'a> {
     pub(crate) option: &'static str,

@@ -1,4 +1,4 @@
-//! Why words ask for no task.
+//! Why words don't ask for a task.
 
 ghost use Rattle.std.specs.Prelude.{◌≡◌};
 ghost use Rattle.clap.specs.Words.{kind_of};
@@ -12,7 +12,7 @@ use clap::error::ErrorKind;
 use clap::{Command, Error};
 use std::alloc::{AllocError, Global};
 
-/// Why the words ask for no task, with what is to be written in its place.
+/// Why the words don't ask for a task, with what is to be written instead.
 #[derive(Debug, Drop)]
 pub enum Refusal {
     /// They ask for help, which is this text.
@@ -47,7 +47,7 @@ pub(crate) fn refusal_of(alloc: Global, error: &Error) -> Refusal
     Refusal::Usage(text)
 }
 
-/// The refusal of a value that is no number in its range.
+/// The refusal of a value that isn't a number in its range.
 pub(crate) fn number_refusal(
     alloc: Global,
     command: &mut Command<'_>,

@@ -43,10 +43,10 @@ pub struct Request<'a> {
     pub task: Task<'a>,
 }
 
-/// Why what the command found is no request.
+/// Why what the command found isn't a request.
 #[derive(Drop)]
 pub(crate) enum Mistake<'a> {
-    /// A value is no number in its range.
+    /// A value isn't a number in its range.
     Number(BadNumber<'a>),
     /// There was no memory.
     OutOfMemory,

@@ -11,7 +11,7 @@ use std::alloc::Global;
 
 /// What the words of a command line ask for, of which the first is the program's name.
 ///
-/// `Help` comes exactly where they ask for help, with its text; `Usage` exactly where the command doesn't take them
+/// `Help` comes exactly where they ask for help, with its text; `Usage` exactly where the command refuses them
 /// otherwise, with the cause; `OutOfMemory` where there is no memory.
 pub fn judge<'a>(alloc: Global, words: &'a [String]) -> Result<Request<'a>, Refusal>
     ensures asks { IfOk result (λ r. judgement (map string_bytes words.entry.now) ≡ Asks r.options (work_of r.task)) }

@@ -16,13 +16,13 @@ pub trait Source {
     /// The bytes that are left, where the source tells them.
     ghost left: { Self → Option (List ℕ) };
 
-    /// How often a read has failed. The count never falls, and stands still at its last value.
+    /// How often a read has failed. The count never falls, and stops at its greatest value.
     ghost faults: { Self → ℕ };
 
-    /// How many bytes were taken, which every source tells. The count stands still at its last value.
+    /// How many bytes were taken, which every source tells. The count stops at its greatest value.
     ghost taken: { Self → ℕ };
 
-    /// Moves the first bytes that are left into `buf` and answers how many: none for a buffer with room only where
+    /// Moves the first bytes that are left into `buf` and returns how many: none, for a buffer with room, only where
     /// nothing is left. `Failed` comes only where the source's count of faults rose, and then nothing was taken.
     fn read(&mut self, buf: &mut [u8]) -> Result<usize, Failed>
         ensures bound { ReadsAtMost result buf.new }
@@ -36,11 +36,11 @@ pub trait Sink {
     /// The bytes that were written, where the sink tells them.
     ghost written: { Self → Option (List ℕ) };
 
-    /// How often a write has failed. The count never falls, and stands still at its last value.
+    /// How often a write has failed. The count never falls, and stops at its greatest value.
     ghost faults: { Self → ℕ };
 
-    /// Appends the first bytes of `piece` and answers how many: at least one, where there is one. `Failed` comes only
-    /// where the sink's count of faults rose; a refusal appends nothing.
+    /// Appends the first bytes of `piece` and returns how many: at least one, unless `piece` is empty. `Failed` comes
+    /// only where the sink's count of faults rose; a refusal appends nothing.
     fn write(&mut self, piece: &[u8]) -> Result<usize, SinkFault>
         ensures bound { IfOk result (λ n. n ≤ length piece.now) }
         ensures advances { IfOk result (λ n. 0 < length piece.now → 0 < n) }

@@ -25,8 +25,8 @@ pub struct FaultySource {
 impl FaultySource {
     ghost use Rattle.cppfilt_ends.specs.Faulty.{source_calls, source_fails_at, source_step};
 
-    /// A source whose bytes are these, of which a call moves at most `step`; the calls whose numbers are listed, from
-    /// 0, fail. Each call after number 2^64 - 1 has that number too.
+    /// A source whose bytes are these, of which a call moves at most `step`. Calls are numbered from 0, and those whose
+    /// numbers are listed fail. Each call after number 2^64 - 1 has that number too.
     pub fn new(bytes: Vec<u8>, step: usize, fail_at: Vec<u64>) -> FaultySource
         requires { 0 < step }
         ensures left { ⟦<FaultySource as Source>⟧.left result ≡ Some bytes.items }
@@ -55,7 +55,7 @@ impl Source for FaultySource {
 
     ghost taken = { λ source. ⟦<VecSource as Source>⟧.taken source.inner };
 
-    /// As the trait's; `Failed` comes at just the listed calls.
+    /// As the trait's; `Failed` comes at the listed calls and no others.
     fn read(&mut self, buf: &mut [u8]) -> Result<usize, Failed>
         ensures bound { ReadsAtMost result buf.new }
         ensures bytes { ReadConsumes (⟦<FaultySource as Source>⟧.left self.old)
@@ -95,8 +95,8 @@ pub struct FaultySink {
 impl FaultySink {
     ghost use Rattle.cppfilt_ends.specs.Faulty.{sink_calls, sink_fails_at, sink_step};
 
-    /// An empty sink, which takes at most `step` bytes a call; the calls whose numbers are listed, from 0, fail. Each
-    /// call after number 2^64 - 1 has that number too.
+    /// An empty sink, which takes at most `step` bytes a call. Calls are numbered from 0, and those whose numbers are
+    /// listed fail. Each call after number 2^64 - 1 has that number too.
     pub fn new(alloc: Global, step: usize, fail_at: Vec<u64>) -> FaultySink
         requires { 0 < step }
         ensures written { ⟦<FaultySink as Sink>⟧.written result ≡ Some [] }
@@ -129,7 +129,7 @@ impl Sink for FaultySink {
 
     ghost faults = { λ sink. sink.faults };
 
-    /// As the trait's; `Failed` comes at just the listed calls.
+    /// As the trait's; `Failed` comes at the listed calls and no others.
     fn write(&mut self, piece: &[u8]) -> Result<usize, SinkFault>
         ensures bound { IfOk result (λ n. n ≤ length piece.now) }
         ensures advances { IfOk result (λ n. 0 < length piece.now → 0 < n) }

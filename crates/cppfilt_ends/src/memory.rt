@@ -1,4 +1,4 @@
-//! A source and a sink in memory. They tell their bytes, and fail for no cause but memory.
+//! A source and a sink in memory. They tell their bytes, and fail only for lack of memory.
 
 ghost use Rattle.std.specs.Prelude.{◌≡◌, ◌≤◌, Some, [], drop, length};
 

@@ -9,7 +9,7 @@ use demangle_context::SinkFault;
 /// How many bytes are gathered before they are written.
 pub const GATHERED: usize = 256 * 1024;
 
-/// From so many bytes on, bytes are written as they are, and not gathered first.
+/// A piece of at least this many bytes is written as it is, and not gathered first.
 const LONG: usize = 16 * 1024;
 
 /// Writes all the bytes.
@@ -26,7 +26,7 @@ pub fn write_all<W: Sink>(output: &mut W, bytes: &[u8]) -> Result<(), SinkFault>
     Ok(())
 }
 
-/// Writes what is gathered, and gathers anew.
+/// Writes what is gathered, and begins to gather anew.
 #[tactic(auto, using(crate::proofs::MoveLaws::move_laws))]
 pub fn flush<W: Sink>(output: &mut W, pending: &mut Vec<u8>) -> Result<(), SinkFault>
     ensures gives { Gives (W.written output.old) (W.written output.new)
@@ -38,7 +38,7 @@ pub fn flush<W: Sink>(output: &mut W, pending: &mut Vec<u8>) -> Result<(), SinkF
     Ok(())
 }
 
-/// Gathers these bytes behind the others where they are few, and writes where there are many.
+/// Gathers these bytes behind the others where they are few, and writes them where they are many.
 pub fn emit<W: Sink>(output: &mut W, pending: &mut Vec<u8>, bytes: &[u8]) -> Result<(), SinkFault>
     ensures { Gives (W.written output.old) (W.written output.new) (W.faults output.old) (W.faults output.new) result
         (pending.old.items ++ bytes.now) pending.new.items }
@@ -63,7 +63,7 @@ fn emit_many<W: Sink>(output: &mut W, pending: &mut Vec<u8>, bytes: &[u8]) -> Re
     write_all(output, bytes)
 }
 
-/// Writes what is gathered where it is more than is gathered at most.
+/// Writes what is gathered, if it is more than may be gathered.
 #[tactic(auto, using(crate::proofs::MoveLaws::move_laws))]
 pub fn relieve<W: Sink>(output: &mut W, pending: &mut Vec<u8>) -> Result<(), SinkFault>
     ensures { Gives (W.written output.old) (W.written output.new) (W.faults output.old) (W.faults output.new) result
@@ -75,7 +75,7 @@ pub fn relieve<W: Sink>(output: &mut W, pending: &mut Vec<u8>) -> Result<(), Sin
     flush(output, pending)
 }
 
-/// Gives on two pieces, one behind the other.
+/// Passes on two pieces, one behind the other.
 pub fn emit_both<W: Sink>(
     output: &mut W,
     pending: &mut Vec<u8>,

@@ -70,7 +70,7 @@ impl<W: Write> Sink for StdSink<W> {
 
     ghost faults = { λ sink. sink.faults };
 
-    /// As the trait's; a write that takes nothing of a piece is a fault.
+    /// As the trait's; a write that takes nothing of a piece with bytes is a fault.
     fn write(&mut self, piece: &[u8]) -> Result<usize, SinkFault> {
         if let Ok(count) = self.inner.write(piece) {
             if count > 0 || piece.is_empty() {

@@ -3,7 +3,8 @@
 use demangle_context::DemangleOptions;
 use demangle_text::ParseOptions;
 
-/// How lines are filtered: how names are read and printed, which lines are asked, and what shows of a refusal.
+/// How lines are filtered: how names are read and printed, which lines are asked for their text, and whether the cause
+/// is shown where one has none.
 #[derive(Clone, Copy, Debug, Default)]
 pub struct FilterOptions {
     /// How a name is read.

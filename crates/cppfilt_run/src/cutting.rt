@@ -8,7 +8,8 @@ pub(crate) const LINE_FEED: u8 = 10;
 
 const CARRIAGE_RETURN: u8 = 13;
 
-/// How many bytes a line has before its ending: a line feed, and one carriage return before it or at the end.
+/// How many bytes a line has before its ending: a line feed, if there is one, and one carriage return before it, or else
+/// at the end.
 pub(crate) fn body_len(line: &[u8]) -> usize
     ensures bytes { body line.now ≡ take result line.now }
     ensures within { result ≤ length line.now }
@@ -23,10 +24,10 @@ pub(crate) fn body_len(line: &[u8]) -> usize
     }
 }
 
-/// How many bytes are looked at together.
+/// How many bytes are tested together.
 pub(crate) const CHUNK: usize = 32;
 
-/// Whether there is a line feed. All bytes are looked at, so that several are at once.
+/// Whether there is a line feed. Every byte is looked at, so that several can be tested at once.
 fn has_line_feed(bytes: &[u8]) -> bool
     ensures { result ≡ fold (λ seen byte. seen || (byte == 10)) false bytes.now }
 {

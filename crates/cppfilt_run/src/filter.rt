@@ -20,7 +20,7 @@ use cppfilt_lines::FilterOptions;
 use demangle_context::SinkFault;
 use std::alloc::Global;
 
-/// How many bytes are asked for by one read.
+/// How many bytes one read asks for.
 const BLOCK: usize = 64 * 1024;
 
 /// The status of a sink's refusal.
@@ -45,12 +45,13 @@ fn end_input<W: Sink>(filter: &mut LineFilter, options: &FilterOptions, output: 
     }
 }
 
-/// Writes the input again, each line that is asked and has a text as its text, and takes at most so many bytes of it.
+/// Copies the input to the output, with each line that is asked and has a text replaced by that text, and filters at
+/// most `limit` bytes.
 ///
-/// A line is cut after each line feed; one carriage return before it, or at the end of a last line without one, is set
-/// aside. What is complete is written before the next read; of a line that isn't complete nothing is. `ReadFault` and
-/// `WriteFault` come where an end failed; `InputTooLong` where the limit was taken and a further read gave bytes;
-/// `OutOfMemory` where memory is wanting; else `Done`.
+/// Lines are cut after each line feed. A carriage return before it, or at the end of a last line without one, is part
+/// of the line's ending. Complete lines are written before the next read; nothing is written of a line that isn't
+/// complete. `ReadFault` and `WriteFault` come where an end failed; `InputTooLong` where `limit` bytes were taken and a
+/// further read gave more; `OutOfMemory` where memory ran out; else `Done`.
 pub fn filter_lines<R: Source, W: Sink>(
     alloc: Global,
     options: &FilterOptions,
@@ -58,7 +59,7 @@ pub fn filter_lines<R: Source, W: Sink>(
     input: &mut R,
     output: &mut W,
 ) -> Status
-    // All of an input that is told was read, and all that is due for it was written.
+    // Where the source tells its bytes, all of them were read, and all that is due for them was written.
     ensures done { result ≡ Status.Done → IsAtEnd (R.left input.new) × IfSome (R.left input.old)
         (λ bytes. Appends (W.written output.old) (W.written output.new) (due options.now bytes)) }
     // What is due for a line is its text where it is asked and is a linker name whose text is within the limits.
@@ -76,7 +77,7 @@ pub fn filter_lines<R: Source, W: Sink>(
     ensures input_too_long_written { result ≡ Status.InputTooLong → IfSome (R.left input.old)
         (λ bytes. Appends (W.written output.old) (W.written output.new)
         (due options.now (complete (take limit bytes)))) }
-    // With no fault, an input within the limit is filtered to its end, but for want of memory,
+    // With no fault, an input within the limit is filtered to its end, unless memory ran out,
     ensures complete { NoFault (R.faults input.old) (R.faults input.new)
         → NoFault (W.faults output.old) (W.faults output.new)
         → IfSome (R.left input.old)
@@ -110,7 +111,7 @@ pub fn filter_lines<R: Source, W: Sink>(
     filtered(alloc, options, limit, input, output)
 }
 
-/// `filter_lines`, with all that is said of it in one word.
+/// `filter_lines`, with one definition for all that its contract says.
 pub(crate) fn filtered<R: Source, W: Sink>(
     alloc: Global,
     options: &FilterOptions,

@@ -11,8 +11,8 @@ use demangle_context::SinkFault;
 use std::alloc::Global;
 use std::mem;
 
-/// A listener that puts the text behind what it was made with, and keeps nothing of the nodes. It fails for no cause
-/// but memory.
+/// A listener that puts the text behind the bytes it was made with, and keeps nothing of the nodes. It fails only for
+/// lack of memory.
 #[derive(Drop)]
 pub(crate) struct Gathering {
     gathered: Vec<u8>,
@@ -30,7 +30,7 @@ impl Gathering {
         }
     }
 
-    /// The bytes, and the text behind them, taken out.
+    /// Takes out the bytes, with the text behind them.
     fn into_gathered(self) -> Vec<u8>
         ensures { result.items ≡ self.gathered.items }
     {
@@ -61,8 +61,8 @@ impl DemangleWrite for Gathering {
     fn pop_demangle_node(&mut self) {}
 }
 
-/// Puts the text of a name behind what is gathered, as it is printed. Where it has none, what is gathered is cut back
-/// to what it was. Errors as those of `demangle_symbol`.
+/// Puts the text of a name behind what is gathered, while it is printed. Where the name has no text, what is gathered
+/// is cut back to what it was. Errors are those of `demangle_symbol`.
 pub(crate) fn gather(
     alloc: Global,
     options: &FilterOptions,

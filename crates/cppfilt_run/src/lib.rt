@@ -1,5 +1,5 @@
-//! The program `cppfilt` over the ends that it is handed: it writes its input again, each line that is a linker name
-//! as its text.
+//! The program `cppfilt` over the ends that it is given: it copies its input, with each line that is a linker name
+//! replaced by its text.
 #![tactic(auto)]
 
 mod cutting;

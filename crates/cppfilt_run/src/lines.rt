@@ -1,4 +1,4 @@
-//! The filter of lines: it gives on what is due for each line that is complete, and holds the front of one that isn't.
+//! The filter of lines: it passes on what is due for each line that is complete, and holds the front of one that isn't.
 
 ghost use Rattle.std.specs.Prelude.{◌≡◌, ℕ, ◌+◌, ◌<◌, ◌≤◌, false, true, List, [], ◌++◌, length, take, OnOk, IfOk};
 ghost use Rattle.cppfilt_ends.specs.Moves.{Gives};
@@ -19,7 +19,7 @@ use std::alloc::{AllocError, Global};
 /// Room for the front of a line, to begin with.
 const HELD: usize = 64 * 1024;
 
-/// Gives on what is due for a whole line, its ending included.
+/// Passes on what is due for a whole line, its ending included.
 fn emit_line<W: Sink>(
     alloc: Global,
     options: &FilterOptions,
@@ -35,7 +35,7 @@ fn emit_line<W: Sink>(
     emit(output, pending, &line[end..])
 }
 
-/// Gives on what is due for a last line without a line feed.
+/// Passes on what is due for a last line without a line feed.
 fn emit_last<W: Sink>(
     alloc: Global,
     options: &FilterOptions,
@@ -64,7 +64,7 @@ pub(crate) struct LineFilter {
 }
 
 impl LineFilter {
-    /// A filter at the beginning of a line, with room for what it may keep of lines as they mostly are.
+    /// A filter at the beginning of a line, with room for lines of usual length.
     pub(crate) fn new(alloc: Global) -> Result<LineFilter, AllocError>
         ensures { IfOk result (λ filter. (filter.held.items ≡ []) × (filter.pending.items ≡ [])) }
     {
@@ -75,7 +75,7 @@ impl LineFilter {
         })
     }
 
-    /// Gives on what is due for the line that ends with these bytes, behind those that are held.
+    /// Passes on what is due for the line that ends with these bytes, behind those that are held.
     fn complete<W: Sink>(
         &mut self,
         options: &FilterOptions,
@@ -105,7 +105,8 @@ impl LineFilter {
         Ok(())
     }
 
-    /// How many bytes the complete lines at the front have that stay as they are; where a line is begun, none.
+    /// How many bytes the complete lines at the front have that stay as they are; none where the front of a line is
+    /// held.
     fn staying_len(&self, options: &FilterOptions, bytes: &[u8]) -> usize
         ensures within { result ≤ length bytes.now }
         ensures clear { 0 < result → (self.now.held.items ≡ []) × (options.now.types ≡ false) }
@@ -118,7 +119,7 @@ impl LineFilter {
         staying_len(bytes)
     }
 
-    /// Gives on what is due for a block of input, and writes it.
+    /// Passes on what is due for a block of input, and writes it.
     pub(crate) fn take_block<W: Sink>(
         &mut self,
         options: &FilterOptions,
@@ -140,7 +141,7 @@ impl LineFilter {
         Ok(())
     }
 
-    /// Gives on what is due for a block of input: line by line, and then the front of a line is held.
+    /// Passes on what is due for a block of input: line by line, and then the front of a line is held.
     fn take_lines<W: Sink>(
         &mut self,
         options: &FilterOptions,

@@ -50,7 +50,7 @@ fn write_names<W: Sink>(
     flush(output, pending)
 }
 
-/// Gives on a name as it is shown, and a line feed.
+/// Passes on a name as it is shown, and a line feed.
 fn emit_name<W: Sink>(
     alloc: Global,
     options: &FilterOptions,

@@ -8,7 +8,7 @@ use std::env::Env;
 use std::io::{Eprint, Read, Write};
 use std::process::{ExitCode, Termination};
 
-/// How the program ended. Only `start` makes one, so a `main` that answers it can't end the process otherwise.
+/// How the program ended. Only `start` makes one, so a `main` that returns it can't end the process in another way.
 #[derive(Drop)]
 pub struct Ended {
     status: Status,

@@ -30,14 +30,14 @@ use std::alloc::{AllocError, Global};
 /// How many bytes of input are taken at most: 2^40.
 const INPUT_LIMIT: u64 = 1 << 40;
 
-/// The program. It does what the words ask for: it writes the lines of the input again, each that is asked and has a
-/// text as its text, or shows names, or demangles a sample of names, or gives help.
+/// The program. It does what the words ask for: it copies the lines of the input, with each that is asked and has a
+/// text replaced by that text, or shows names, or demangles a sample of names, or gives help.
 ///
 /// `words` are the words after the program's name; they are judged before anything is read or written. `Usage` comes
 /// exactly where they are wrong, with the cause on `errors`; `Help` where they ask for help, which goes to the output.
-/// Of the input, which is read for its lines alone, at most 2^40 bytes are taken. `ReadFault` and `WriteFault` come
-/// where an end failed; `InputTooLong` where that many bytes were taken and a further read gave bytes; `OutOfMemory`
-/// where memory is wanting.
+/// The input is read only to filter its lines, and at most 2^40 bytes of it are filtered. `ReadFault` and `WriteFault`
+/// come where an end failed; `InputTooLong` where that many bytes were taken and a further read gave more;
+/// `OutOfMemory` where memory ran out.
 pub fn run<R: Source, W: Sink, E: Sink>(
     alloc: Global,
     words: Vec<String>,
@@ -72,7 +72,7 @@ pub fn run<R: Source, W: Sink, E: Sink>(
     ensures input_too_long_written { (o : FilterOptions) → verdict_on words.items ≡ Asks o lines
         → result ≡ Status.InputTooLong → IfSome (R.left input.old)
         (λ bytes. Appends (W.written output.old) (W.written output.new) (due o (complete (take (2 ^ 40) bytes)))) }
-    // With no fault, work over an input of at most 2^40 bytes is done, but for want of memory,
+    // With no fault, work over an input of at most 2^40 bytes is done, unless memory ran out,
     ensures complete { (o : FilterOptions) (work : Work) → verdict_on words.items ≡ Asks o work
         → NoFault (R.faults input.old) (R.faults input.new) → NoFault (W.faults output.old) (W.faults output.new)
         → IfSome (input_for work (R.left input.old))
@@ -119,7 +119,7 @@ pub fn run<R: Source, W: Sink, E: Sink>(
     run_by_words(alloc, words, input, output, errors)
 }
 
-/// `run`, with all that is said of it but for its message in one word.
+/// `run`, with one definition for all that its contract says but for the message.
 fn run_by_words<R: Source, W: Sink, E: Sink>(
     alloc: Global,
     words: Vec<String>,
@@ -199,7 +199,7 @@ fn show_help<W: Sink>(text: &str, output: &mut W) -> Status
     }
 }
 
-/// Tells what is wrong with the words. A fault of `errors` changes no status; its want of memory makes the status
+/// Tells what is wrong with the words. A fault of `errors` doesn't change the status, but its lack of memory makes it
 /// `OutOfMemory`.
 fn show_usage<E: Sink>(text: &str, errors: &mut E) -> Status
     ensures { (result ≡ Status.Usage) ⊎ (result ≡ Status.OutOfMemory) }
@@ -210,14 +210,14 @@ fn show_usage<E: Sink>(text: &str, errors: &mut E) -> Status
     }
 }
 
-/// Tells that some word is no text.
+/// Tells that some word isn't text.
 pub(crate) fn refuse_words<E: Sink>(errors: &mut E) -> Status
     ensures { (result ≡ Status.Usage) ⊎ (result ≡ Status.OutOfMemory) }
 {
     show_usage("error: a word is not valid UTF-8\n", errors)
 }
 
-/// Writes a status's message. A fault of `errors` changes no status; its want of memory makes the status
+/// Writes a status's message. A fault of `errors` doesn't change the status, but its lack of memory makes it
 /// `OutOfMemory`.
 pub(crate) fn report<E: Sink>(status: Status, errors: &mut E) -> Status
     ensures kept { (result ≡ status) ⊎ (result ≡ Status.OutOfMemory) }

@@ -16,7 +16,7 @@ use std::alloc::Global;
 /// A line with more bytes than this before its ending is never asked for its text.
 const LINE_LIMIT: usize = 1_048_576;
 
-/// Whether a linker name begins so. Its first byte is tested first, so that other lines cost one test.
+/// Whether bytes begin as a linker name does. The first byte is tested first, so that most lines cost one test.
 fn is_named(bytes: &[u8]) -> bool
     ensures { result ≡ is_named bytes.now }
 {
@@ -35,7 +35,7 @@ fn is_asked(options: &FilterOptions, bytes: &[u8]) -> bool
     bytes.len() <= LINE_LIMIT && (options.types || is_named(bytes))
 }
 
-/// Gives on bytes as they are shown.
+/// Passes on bytes as they are shown.
 pub(crate) fn emit_shown<W: Sink>(
     alloc: Global,
     options: &FilterOptions,
@@ -52,7 +52,8 @@ pub(crate) fn emit_shown<W: Sink>(
     emit(output, pending, bytes)
 }
 
-/// Gives on what bytes become that are asked: their text, or they themselves, with the cause where causes are shown.
+/// Passes on what becomes of bytes that are asked: their text, or else the bytes, with the cause where causes are
+/// shown.
 fn emit_asked<W: Sink>(
     alloc: Global,
     options: &FilterOptions,
@@ -70,7 +71,7 @@ fn emit_asked<W: Sink>(
     }
 }
 
-/// Gives on bytes that have no text because of a fault, unless it is want of memory.
+/// Passes on bytes that have no text because of a fault. A lack of memory is returned instead.
 fn emit_fault<W: Sink>(
     why: bool,
     output: &mut W,
@@ -88,7 +89,7 @@ fn emit_fault<W: Sink>(
     }
 }
 
-/// Gives on bytes that have no text, with the cause where causes are shown.
+/// Passes on bytes that have no text, with the cause where causes are shown.
 fn emit_refused<W: Sink>(
     why: bool,
     output: &mut W,

@@ -19,7 +19,7 @@ pub enum Status {
     ReadFault,
     /// A write to the output failed.
     WriteFault,
-    /// More bytes came than are taken.
+    /// The input has more bytes than are taken.
     InputTooLong,
     /// There was no memory.
     OutOfMemory,
@@ -48,8 +48,8 @@ impl Status {
         ExitCode::from(self.code())
     }
 
-    /// What is written to standard error, through its line feed; nothing for `Done` and `Help`, and for
-    /// `Usage`, whose text is another for each mistake.
+    /// What is written to standard error, through its line feed; nothing for `Done` and `Help`, nor for `Usage`, whose
+    /// text depends on the mistake.
     pub fn message(&self) -> &'static [u8]
         ensures { result.now ≡ message_of self.now }
     {

@@ -1,5 +1,5 @@
-//! Lines that stay as they are, many at once: complete ones, none of which begins with the byte that linker names begin
-//! with.
+//! Lines that stay as they are, found many at once: complete lines, none of which begins with the byte that linker
+//! names begin with.
 
 ghost use Rattle.std.specs.Prelude.{◌≡◌, ◌+◌, ◌<◌, ◌≤◌, true, not, length, take, MatchOption};
 ghost use Rattle.cppfilt_run.specs.Staying.{begins_line, stays, stays_behind};
@@ -9,7 +9,7 @@ use crate::cutting::{CHUNK, LINE_FEED};
 /// The byte that linker names begin with.
 const UNDERSCORE: u8 = 95;
 
-/// Whether a line begins there, of bytes that begin one.
+/// Whether a line begins at `at`, in bytes that begin with a new line.
 fn begins_line(bytes: &[u8], at: usize) -> bool
     requires { at ≤ length bytes.now }
     ensures { result ≡ begins_line true (take at bytes.now) }
@@ -17,7 +17,7 @@ fn begins_line(bytes: &[u8], at: usize) -> bool
     at == 0 || bytes[at - 1] == LINE_FEED
 }
 
-/// Whether `_` stands behind a line feed. All bytes are looked at, so that several are at once.
+/// Whether `_` stands just behind a line feed. Every byte is looked at, so that several can be tested at once.
 fn has_underscore_line(bytes: &[u8]) -> bool
     ensures { result ≡ not (stays_behind bytes.now) }
 {
@@ -30,7 +30,7 @@ fn has_underscore_line(bytes: &[u8]) -> bool
     seen
 }
 
-/// A byte up to which no line begins with `_`, itself included, chunk by chunk.
+/// The index of a byte up to which, itself included, no line begins with `_`; found chunk by chunk.
 fn staying_chunks(bytes: &[u8]) -> usize
     requires first { stays true (take 1 bytes.now) ≡ true }
     requires some { 0 < length bytes.now }
@@ -44,7 +44,7 @@ fn staying_chunks(bytes: &[u8]) -> usize
     at
 }
 
-/// Where the first line begins behind a byte that begins with `_`; `None` where there is none.
+/// Where the first line behind the byte at `at` begins that begins with `_`; `None` where there is none.
 fn underscore_behind(bytes: &[u8], at: usize) -> Option<usize>
     requires within { at < length bytes.now }
     requires stays { stays true (take (at + 1) bytes.now) ≡ true }
@@ -61,7 +61,7 @@ fn underscore_behind(bytes: &[u8], at: usize) -> Option<usize>
     None
 }
 
-/// Where the first line begins that begins with `_`, of bytes that begin a line; `None` where there is none.
+/// Where the first line begins that begins with `_`, in bytes that begin with a new line; `None` where there is none.
 fn underscore_line(bytes: &[u8]) -> Option<usize>
     ensures { MatchOption result (stays true bytes.now ≡ true) (λ at. (at ≤ length bytes.now)
         × (stays true (take at bytes.now) ≡ true) × (begins_line true (take at bytes.now) ≡ true)) }
@@ -75,7 +75,7 @@ fn underscore_line(bytes: &[u8]) -> Option<usize>
     underscore_behind(bytes, staying_chunks(bytes))
 }
 
-/// How many bytes the complete lines have, of bytes that begin a line.
+/// How many bytes the complete lines have together, in bytes that begin with a new line.
 fn complete_len(bytes: &[u8]) -> usize
     ensures within { result ≤ length bytes.now }
     ensures ends { begins_line true (take result bytes.now) ≡ true }
@@ -87,7 +87,8 @@ fn complete_len(bytes: &[u8]) -> usize
     end
 }
 
-/// How many bytes the complete lines have before the first line that begins with `_`, of bytes that begin a line.
+/// How many bytes the complete lines have before the first line that begins with `_`, in bytes that begin with a new
+/// line.
 pub(crate) fn staying_len(bytes: &[u8]) -> usize
     ensures within { result ≤ length bytes.now }
     ensures stays { stays true (take result bytes.now) ≡ true }

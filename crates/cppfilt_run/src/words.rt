@@ -5,10 +5,10 @@ ghost use Rattle.std.specs.Prelude.{◌≡◌, drop};
 use std::alloc::AllocError;
 use std::env::{self, Env};
 
-/// Why a process has no words to hand on.
+/// Why the words of a process can't be had.
 #[derive(Clone, Copy, Debug, PartialEq, Eq)]
 pub enum NoWords {
-    /// Some word is no text.
+    /// Some word isn't text.
     NoText,
     /// There was no memory for them.
     OutOfMemory,

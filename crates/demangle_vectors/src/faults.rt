@@ -1,11 +1,11 @@
-//! Bytes and names without a text, by why they have none.
+//! Bytes and names without a text, and why they have none.
 
 use crate::texts::demangled;
 use cpp_demangle::error::{DemangleError, Error};
 use cpp_demangle::{DemangleOptions, ParseOptions, SymbolFault, demangle_symbol};
 use std::test::Fail;
 
-/// Bytes that are no name, by why they aren't.
+/// Bytes that aren't a name, and why.
 const UNREAD: [(&[u8], Error); 15] = [
     (b"", Error::UnexpectedEnd),
     (b"_Z", Error::UnexpectedEnd),
@@ -27,7 +27,7 @@ const UNREAD: [(&[u8], Error); 15] = [
     ),
 ];
 
-/// Names whose trees can't be printed, by why they can't.
+/// Names whose trees can't be printed, and why.
 const UNPRINTED: [(&[u8], DemangleError); 4] = [
     (
         b"_ZC1v",

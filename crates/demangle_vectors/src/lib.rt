@@ -1,5 +1,5 @@
-//! Names, faults, events and runs from outside, as tests of the library's and the program's public calls: that the
-//! definitions say what they are meant to, which no clause can say, and that memory is there.
+//! Tests of the library's and the program's public calls on names, faults, events and runs that come from outside: that
+//! the definitions say what they are meant to, which no clause can say, and that there is memory enough.
 #![tactic(auto)]
 
 #[cfg(test)]

@@ -17,7 +17,7 @@ pub(crate) struct Noted {
 }
 
 impl Noted {
-    /// One that fails at the piece of this number, from 0.
+    /// One that fails at the piece of this number, counted from 0.
     pub(crate) fn failing_at(alloc: Global, piece: u64) -> Noted {
         Noted {
             text: String::new(alloc),

@@ -12,7 +12,7 @@ const NAME: &[u8] = b"_ZN5space3fooEibc";
 
 const TEXT: &str = "space::foo(int, bool, char)";
 
-/// Names, the piece at which a listener fails, what it is told all the same, and the fault.
+/// Names, the piece at which a listener fails, what it is told nevertheless, and the fault.
 const TOLD: [(&[u8], u64, &str, Option<DemangleError>); 8] = [
     (b"_ZN1a1bEv", u64::MAX, "<N <P <U a>>::<U b>>()", None),
     (b"_ZN1a1bEv", 0, "<N <P <U >>>", Some(DemangleError::Sink)),

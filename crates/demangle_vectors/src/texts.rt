@@ -1,4 +1,4 @@
-//! Texts of names, under the options by default and under others.
+//! Texts of names, under the default options and under others.
 
 use cpp_demangle::{DemangleOptions, ParseOptions, SymbolFault, demangle_symbol};
 use std::alloc::Global;
@@ -110,10 +110,10 @@ const TEXTS: [(&[u8], &str); 55] = [
     ),
 ];
 
-/// Two names of which the one refers to a component where the other spells it again.
+/// Two names, of which one refers to a component that the other spells out again.
 const SHARED: [(&[u8], &[u8]); 2] = [(b"_Z1fP1aS0_", b"_Z1fP1aP1a"), (b"_Z1fP1aS_", b"_Z1fP1a1a")];
 
-/// What a name becomes under the options by default.
+/// What a name becomes under the default options.
 pub(crate) fn demangled(alloc: Global, name: &[u8]) -> Result<String, SymbolFault> {
     let parse = ParseOptions::default();
     demangle_symbol(alloc, name, &parse, &DemangleOptions::default())

@@ -1,6 +1,6 @@
 //! Words of the command line, inputs, and what is written for them.
 
-/// Words with a blank between two, an input, and what is written for them.
+/// Words, separated by blanks, an input, and what is written for them.
 pub(crate) const RUNS: [(&str, &[u8], &[u8]); 58] = [
     ("", b"foo\n_Z1fv\r\n_Z", b"foo\nf()\r\n_Z"),
     (
