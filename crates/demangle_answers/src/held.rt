@@ -152,7 +152,7 @@ pub fn begun<X: Discard>(
 
 /// The list with what was read at its end, and the rest behind it; for a failure to read the bytes the list as it is,
 /// and no rest. Any other failure drops the list.
-pub fn lengthened<'b, X: Discard>(
+fn lengthened<'b, X: Discard>(
     list: Vec<X>,
     answer: Result<(X, IndexStr<'b>)>,
 ) -> Result<(Vec<X>, Option<IndexStr<'b>>)>

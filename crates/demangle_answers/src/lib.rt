@@ -11,10 +11,5 @@ pub use components::{
     add_template_template_param, add_type, add_unresolved_type,
 };
 pub use demangle_discard::Discard;
-pub use held::{
-    begun, boxed, grown, in_box, kept, lengthened, looked_behind, may_miss, passed, restored,
-};
-pub use next::{
-    begins_fold, begins_function, begins_left_fold, begins_thunk, begins_with, has_more, next_is,
-    next_is_digit,
-};
+pub use held::{begun, boxed, grown, in_box, kept, looked_behind, may_miss, passed, restored};
+pub use next::{begins_function, begins_thunk, has_more, next_is, next_is_digit};

@@ -1,12 +1,11 @@
 //! Tests of the next bytes.
 
-ghost use Rattle.std.specs.Prelude.{◌≡◌, ◌&&◌, [], ◌∷◌, codes, drop, length, nat_le};
+ghost use Rattle.std.specs.Prelude.{◌≡◌, [], ◌∷◌, codes, length, nat_le};
 ghost use Rattle.demangle_text.specs.Spot.{spot};
-ghost use Rattle.demangle_text.specs.Word.{starts};
-ghost use Rattle.demangle_grammar.specs.Reading.{any_starts, next_is, no_digit};
+ghost use Rattle.demangle_grammar.specs.Reading.{any_starts, next_is};
 ghost use Rattle.demangle_grammar.specs.Rule.{Class};
 
-use demangle_text::{IndexStr, consume};
+use demangle_text::IndexStr;
 
 /// Whether this is the next byte.
 pub fn next_is<'b>(byte: u8, input: IndexStr<'b>) -> bool
@@ -24,7 +23,7 @@ pub fn next_is_digit<'b>(input: IndexStr<'b>) -> bool
 {
     match input.as_slice() {
         [] => false,
-        [next, ..] => b'0' <= *next && *next <= b'9',
+        [next, ..] => next.is_ascii_digit(),
     }
 }
 
@@ -35,48 +34,14 @@ pub fn has_more<'b>(count: usize, input: IndexStr<'b>) -> bool
     count <= input.len()
 }
 
-/// Whether the word stands at the front.
-#[tactic(auto, unfolding(demangle_text::specs::Word::word_at))]
-pub fn begins_with<'b>(word: &[u8], input: IndexStr<'b>) -> bool
-    ensures { result ≡ starts word.now (spot input.entry).left }
-{
-    match consume(word, input) {
-        Ok(_) => true,
-        Err(_) => false,
-    }
-}
-
 /// Whether a function type stands there, whose qualifiers are its own.
 pub fn begins_function<'b>(input: IndexStr<'b>) -> bool
     ensures { result ≡ any_starts (codes "F" ∷ codes "Do" ∷ codes "DO" ∷ codes "Dx" ∷ codes "Dw" ∷ [])
         (spot input.entry).left }
 {
-    begins_with(b"F", input)
-        || begins_with(b"Do", input)
-        || begins_with(b"DO", input)
-        || begins_with(b"Dx", input)
-        || begins_with(b"Dw", input)
-}
-
-/// Whether a fold stands there with the operand on one side, or with one on the right: `fl`, `fr` or `fR`.
-pub fn begins_fold<'b>(input: IndexStr<'b>) -> bool
-    ensures { result ≡ any_starts (codes "fl" ∷ codes "fr" ∷ codes "fR" ∷ []) (spot input.entry).left }
-{
-    begins_with(b"fl", input) || begins_with(b"fr", input) || begins_with(b"fR", input)
-}
-
-/// Whether a fold with an operand on the left stands there: `fL` and a byte that is no digit, which would be that of
-/// a function parameter.
-#[tactic(auto, unfolding(demangle_text::specs::Word::word_at))]
-pub fn begins_left_fold<'b>(input: IndexStr<'b>) -> bool
-    ensures { let bytes = (spot input.entry).left in result ≡ (starts (codes "fL") bytes && no_digit (drop 2 bytes)) }
-{
-    match consume(b"fL", input) {
-        Ok(rest) => match rest.as_slice() {
-            [] => false,
-            [_, ..] => !next_is_digit(rest),
-        },
-        Err(_) => false,
+    match input.as_slice() {
+        [b'F', ..] | [b'D', b'o' | b'O' | b'x' | b'w', ..] => true,
+        _ => false,
     }
 }
 
@@ -84,5 +49,8 @@ pub fn begins_left_fold<'b>(input: IndexStr<'b>) -> bool
 pub fn begins_thunk<'b>(input: IndexStr<'b>) -> bool
     ensures { result ≡ any_starts (codes "Th" ∷ codes "Tv" ∷ []) (spot input.entry).left }
 {
-    begins_with(b"Th", input) || begins_with(b"Tv", input)
+    match input.as_slice() {
+        [b'T', b'h' | b'v', ..] => true,
+        _ => false,
+    }
 }

@@ -20,8 +20,7 @@ pub fn pack_mark<'b>(input: IndexStr<'b>) -> Result<IndexStr<'b>>
     if let Ok(rest) = consume(b"J", input) {
         return Ok(rest);
     }
-    let rest = consume(b"I", input)?;
-    Ok(rest)
+    consume(b"I", input)
 }
 
 /// How many bytes stand before the next `E`, or all.

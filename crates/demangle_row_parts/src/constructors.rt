@@ -44,21 +44,19 @@ impl Constructor {
 }
 
 /// The digit at the front, and the rest. Where none of the four is there, the refusal is that of the last.
-#[tactic(auto, unfolding(demangle_forms::specs::UnqualifiedForms::constructor_at))]
+#[tactic(auto, unfolding(demangle_forms::specs::UnqualifiedForms::constructor_at, demangle_text::specs::Word::word_at))]
 pub fn constructor_word<'b>(input: IndexStr<'b>) -> Result<(Constructor, IndexStr<'b>)>
     ensures { Gives (λ x. (tag_of_constructor x.0, spot x.1)) result (constructor_at (spot input.entry)) }
 {
-    if let Ok(rest) = consume(b"1", input) {
-        return Ok((Constructor::Complete, rest));
+    match input.as_slice() {
+        [b'1', ..] => Ok((Constructor::Complete, input.range_from(1..))),
+        [b'2', ..] => Ok((Constructor::Base, input.range_from(1..))),
+        [b'3', ..] => Ok((Constructor::CompleteAllocating, input.range_from(1..))),
+        _ => {
+            let rest = consume(b"4", input)?;
+            Ok((Constructor::MaybeInCharge, rest))
+        }
     }
-    if let Ok(rest) = consume(b"2", input) {
-        return Ok((Constructor::Base, rest));
-    }
-    if let Ok(rest) = consume(b"3", input) {
-        return Ok((Constructor::CompleteAllocating, rest));
-    }
-    let rest = consume(b"4", input)?;
-    Ok((Constructor::MaybeInCharge, rest))
 }
 
 /// Which of the destructors, as its word says.
@@ -91,21 +89,16 @@ impl Destructor {
 }
 
 /// The word at the front, and the rest. `UnexpectedText` exactly where none of the four is there.
-#[tactic(auto, unfolding(demangle_forms::specs::UnqualifiedForms::destructor_at))]
+#[tactic(auto, unfolding(demangle_forms::specs::UnqualifiedForms::destructor_at, demangle_text::specs::Word::word_at))]
 pub fn destructor_word<'b>(input: IndexStr<'b>) -> Result<(Destructor, IndexStr<'b>)>
     ensures { Gives (λ x. (tag_of_destructor x.0, spot x.1)) result (destructor_at (spot input.entry)) }
 {
-    if let Ok(rest) = consume(b"D0", input) {
-        return Ok((Destructor::Deleting, rest));
-    }
-    if let Ok(rest) = consume(b"D1", input) {
-        return Ok((Destructor::Complete, rest));
-    }
-    if let Ok(rest) = consume(b"D2", input) {
-        return Ok((Destructor::Base, rest));
-    }
-    if let Ok(rest) = consume(b"D4", input) {
-        return Ok((Destructor::MaybeInCharge, rest));
-    }
-    Err(Error::UnexpectedText)
+    let destructor = match input.as_slice() {
+        [b'D', b'0', ..] => Destructor::Deleting,
+        [b'D', b'1', ..] => Destructor::Complete,
+        [b'D', b'2', ..] => Destructor::Base,
+        [b'D', b'4', ..] => Destructor::MaybeInCharge,
+        _ => return Err(Error::UnexpectedText),
+    };
+    Ok((destructor, input.range_from(2..)))
 }

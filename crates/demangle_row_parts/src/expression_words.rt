@@ -193,8 +193,7 @@ pub fn expression_word<'b>(input: IndexStr<'b>) -> Result<(ExpressionWord, Index
     if let Ok((word, rest)) = query_word(input) {
         return Ok((word, rest));
     }
-    let (word, rest) = member_word(input)?;
-    Ok((word, rest))
+    member_word(input)
 }
 
 /// `pp_` or `mm_`.

@@ -12,7 +12,6 @@ ghost use Rattle.demangle_forms.specs.ExpressionForms.{fold_next, fold_operator_
 ghost use Rattle.demangle_answers.specs.Reads.{AnswersPart};
 ghost use Rattle.demangle_row_parts.specs.ExpressionWords.{form_of_fold_word, tag_of_one_sided, tag_of_two_sided};
 
-use demangle_answers::{begins_fold, begins_left_fold};
 use demangle_entries::{Expression, FoldExpr};
 use demangle_leaf_rows::{Depth, ReadLeaf};
 use demangle_text::{Error, IndexStr, Result, consume};
@@ -78,32 +77,31 @@ impl TwoSided {
     }
 }
 
-/// Whether a fold begins here: `fl`, `fr`, `fR`, or `fL` and no digit.
+/// Whether a fold begins here: `fl`, `fr`, `fR`, or `fL` and no digit, which would be that of a function parameter.
 #[tactic(auto, unfolding(demangle_forms::specs::ExpressionForms::fold_next))]
 pub fn fold_begins<'b>(input: IndexStr<'b>) -> bool
     ensures { result ≡ fold_next (spot input.entry).left }
 {
-    begins_fold(input) || begins_left_fold(input)
+    match input.as_slice() {
+        [b'f', b'l' | b'r' | b'R', ..] => true,
+        [b'f', b'L', next, ..] => !next.is_ascii_digit(),
+        _ => false,
+    }
 }
 
 /// Which fold it is, by the byte behind `f`. `UnexpectedText` where it is none of the four.
-#[tactic(auto, unfolding(demangle_forms::specs::ExpressionForms::fold_word_at))]
+#[tactic(auto, unfolding(demangle_forms::specs::ExpressionForms::fold_word_at, demangle_text::specs::Word::word_at))]
 pub fn fold_word<'b>(input: IndexStr<'b>) -> Result<(FoldWord, IndexStr<'b>)>
     ensures { Gives (λ x. (form_of_fold_word x.0, spot x.1)) result (fold_word_at (spot input.entry)) }
 {
-    if let Ok(rest) = consume(b"l", input) {
-        return Ok((FoldWord::Unary(OneSided::Left), rest));
-    }
-    if let Ok(rest) = consume(b"r", input) {
-        return Ok((FoldWord::Unary(OneSided::Right), rest));
-    }
-    if let Ok(rest) = consume(b"L", input) {
-        return Ok((FoldWord::Binary(TwoSided::Left), rest));
-    }
-    if let Ok(rest) = consume(b"R", input) {
-        return Ok((FoldWord::Binary(TwoSided::Right), rest));
-    }
-    Err(Error::UnexpectedText)
+    let fold = match input.as_slice() {
+        [b'l', ..] => FoldWord::Unary(OneSided::Left),
+        [b'r', ..] => FoldWord::Unary(OneSided::Right),
+        [b'L', ..] => FoldWord::Binary(TwoSided::Left),
+        [b'R', ..] => FoldWord::Binary(TwoSided::Right),
+        _ => return Err(Error::UnexpectedText),
+    };
+    Ok((fold, input.range_from(1..)))
 }
 
 /// The operator of a fold, which takes two operands. `UnexpectedText` where it takes another number.

@@ -21,7 +21,6 @@ mod type_marks;
 pub use allocation_words::{AllocationForms, DeleteForm, NewForm};
 pub use bytes::{pack_mark, same_length, up_to_e};
 pub use constructors::{Constructor, Destructor, constructor_word, destructor_word};
-pub use demangle_leaf_rows::{digit_at, optional_word};
 pub use expression_words::{
     AccessWord, CallWord, CastWord, ExpressionWord, MemberWord, TypeWord, UnaryWord,
     expression_word, subobject_offset,

@@ -5,10 +5,9 @@ ghost use Rattle.demangle_text.specs.Kind.{kind};
 ghost use Rattle.demangle_text.specs.Spot.{spot};
 ghost use Rattle.demangle_grammar.specs.Reading.{is_numbered};
 ghost use Rattle.demangle_leaf_nodes.specs.TreeLeaves.{tree_of_prefix_handle};
-ghost use Rattle.demangle_forms.specs.NameForms.{first_turn_at, is_name_first, names_next, no_prefix_kind, turn_at};
+ghost use Rattle.demangle_forms.specs.NameForms.{first_turn_at, is_name_first, no_prefix_kind, turn_at};
 ghost use Rattle.demangle_row_parts.specs.Words.{form_of_turn};
 
-use demangle_answers::next_is;
 use demangle_leaf_nodes::PrefixHandle;
 use demangle_text::{Error, IndexStr};
 
@@ -42,16 +41,6 @@ fn is_name_first(byte: u8) -> bool
     }
 }
 
-/// Whether a name in a prefix begins here.
-fn next_is_name<'b>(input: IndexStr<'b>) -> bool
-    ensures { result ≡ names_next (spot input.entry).left }
-{
-    match input.as_slice() {
-        [] => false,
-        [next, ..] => is_name_first(*next),
-    }
-}
-
 /// Whether template arguments may follow: behind a well-known or a numbered component.
 fn is_numbered(prefix: PrefixHandle) -> bool
     ensures { result ≡ is_numbered (tree_of_prefix_handle prefix) }
@@ -68,22 +57,14 @@ fn is_numbered(prefix: PrefixHandle) -> bool
 pub fn next_turn<'b>(prefix: PrefixHandle, input: IndexStr<'b>) -> Turn
     ensures { form_of_turn result ≡ turn_at (tree_of_prefix_handle prefix) (spot input.entry).left }
 {
-    if next_is(b'S', input) {
-        return Turn::Substitution;
+    match input.as_slice() {
+        [b'S', ..] => Turn::Substitution,
+        [b'T', ..] => Turn::Parameter,
+        [b'D', ..] => Turn::Decltype,
+        [b'I', ..] if is_numbered(prefix) => Turn::Template,
+        [first, ..] if is_name_first(*first) => Turn::Name,
+        _ => Turn::None,
     }
-    if next_is(b'T', input) {
-        return Turn::Parameter;
-    }
-    if next_is(b'D', input) {
-        return Turn::Decltype;
-    }
-    if next_is(b'I', input) && is_numbered(prefix) {
-        return Turn::Template;
-    }
-    if next_is_name(input) {
-        return Turn::Name;
-    }
-    Turn::None
 }
 
 /// What the first turn begins with, which is no `Template`: no prefix begins with arguments.
@@ -91,19 +72,13 @@ pub fn next_turn<'b>(prefix: PrefixHandle, input: IndexStr<'b>) -> Turn
 pub fn first_turn<'b>(input: IndexStr<'b>) -> Turn
     ensures { form_of_turn result ≡ first_turn_at (spot input.entry).left }
 {
-    if next_is(b'S', input) {
-        return Turn::Substitution;
+    match input.as_slice() {
+        [b'S', ..] => Turn::Substitution,
+        [b'T', ..] => Turn::Parameter,
+        [b'D', ..] => Turn::Decltype,
+        [first, ..] if is_name_first(*first) => Turn::Name,
+        _ => Turn::None,
     }
-    if next_is(b'T', input) {
-        return Turn::Parameter;
-    }
-    if next_is(b'D', input) {
-        return Turn::Decltype;
-    }
-    if next_is_name(input) {
-        return Turn::Name;
-    }
-    Turn::None
 }
 
 /// Why no prefix begins here: `UnexpectedEnd` where the bytes or the nested name end, else `UnexpectedText`.
@@ -112,13 +87,7 @@ pub fn no_prefix<'b>(input: IndexStr<'b>) -> Error
     ensures { kind result ≡ no_prefix_kind (spot input.entry).left }
 {
     match input.as_slice() {
-        [] => Error::UnexpectedEnd,
-        [_, ..] => {
-            if next_is(b'E', input) {
-                Error::UnexpectedEnd
-            } else {
-                Error::UnexpectedText
-            }
-        }
+        [] | [b'E', ..] => Error::UnexpectedEnd,
+        _ => Error::UnexpectedText,
     }
 }
