@@ -1,11 +1,11 @@
-# The two commands of the README. From nothing either takes an hour or two, since all is proved; what passed is kept on
-# the machine, and a later run proves only what changed.
+# The two commands of the README. From nothing either takes one to three hours, since all is proved; what passed is kept
+# on the machine, and a later run proves only what changed.
 .PHONY: cppfilt test
 
 # The gate, which proves and builds the program, and leaves it here as ./cppfilt.
 cppfilt:
-	@echo "proving and building cppfilt (the first time takes an hour or two)"
 	@log=$$(mktemp); \
+	echo "proving and building cppfilt: one to three hours the first time; how far it is stands in $$log"; \
 	if rt ci > "$$log" 2>&1; then \
 	    rm -f "$$log"; \
 	else \
