@@ -71,7 +71,7 @@ pub fn optional_template_args<'b, B: Below>(
     }
 }
 
-/// Arguments one after the other, one at least. For want of memory the answer is `OutOfMemory`.
+/// One argument or more. Where memory runs out, the answer is `OutOfMemory`.
 #[tactic(auto, using(demangle_forms::proofs::Loops::arg_list, demangle_forms::proofs::Lasting::lasting))]
 fn some_arguments<'b, B: Below>(
     below: B,
@@ -104,7 +104,7 @@ fn some_arguments<'b, B: Below>(
     }
 }
 
-/// Arguments one after the other, of which there may be none. For want of memory the answer is `OutOfMemory`.
+/// Any number of arguments. Where memory runs out, the answer is `OutOfMemory`.
 #[tactic(auto, using(demangle_forms::proofs::Loops::arg_list, demangle_forms::proofs::Lasting::lasting))]
 pub fn all_arguments<'b, B: Below>(
     below: B,
@@ -158,9 +158,8 @@ pub fn template_arg_by<'b, B: Below>(
         let (value, rest) = kept(subs, mark, value, consume(b"E", rest))?;
         return Ok((TemplateArg::Expression(value), rest));
     }
-    match passed(expr_primary(below, alloc, depth, subs, input))? {
-        Ok((primary, rest)) => return Ok((TemplateArg::SimpleExpression(primary), rest)),
-        Err(_) => {}
+    if let Ok((primary, rest)) = passed(expr_primary(below, alloc, depth, subs, input))? {
+        return Ok((TemplateArg::SimpleExpression(primary), rest));
     }
     if let Ok((ty, rest)) = passed(below.type_handle(alloc, depth, subs, input))? {
         return Ok((TemplateArg::TypeArg(ty), rest));
@@ -189,7 +188,7 @@ fn argument_pack<'b, B: Below>(
     Ok((TemplateArg::ArgPack(args), rest))
 }
 
-/// What stands in a pack, up to its `E`: where that is next, no argument is tried.
+/// The arguments in a pack, up to its `E`. Where that is next, no argument is tried.
 #[tactic(auto, unfolding(demangle_forms::specs::ArgForms::pack_list_at))]
 fn pack_list<'b, B: Below>(
     below: B,

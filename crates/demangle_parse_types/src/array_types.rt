@@ -58,7 +58,7 @@ pub fn array_type<'b, B: Below>(
     }
 }
 
-/// A vector, which compilers have, ABI section 5.1.5.
+/// A vector, an extension of compilers, ABI section 5.1.5.
 ///
 /// ```text
 /// <vector-type> ::= Dv <number> _ <type> | Dv <expression> _ <type>
@@ -91,7 +91,7 @@ pub fn vector_type<'b, B: Below>(
     Ok((VectorType::DimensionExpression(dimension, element), rest))
 }
 
-/// A pointer to a member: the class, and the type of the member. ABI section 5.1.5.
+/// A pointer to a member: the class and the type of the member, ABI section 5.1.5.
 ///
 /// ```text
 /// <pointer-to-member-type> ::= M <class type> <member type>

@@ -1,4 +1,4 @@
-//! Nodes in boxes, where the tree holds them so. A box counts no level of its own.
+//! Rows whose nodes the tree holds in boxes. A box takes no level of its own.
 
 ghost use Rattle.std.specs.Prelude.{◌≡◌, ◌<◌};
 ghost use Rattle.demangle_table.specs.TableOf.{table_of};
@@ -53,7 +53,7 @@ pub fn boxed_name<'b, B: Below>(
     in_box(alloc, subs, mark, answer)
 }
 
-/// The name of a function or a variable with its types, in a box.
+/// The name of a function or a variable, with its types, in a box.
 #[tactic(auto, using(demangle_forms::proofs::Lasting::lasting))]
 pub fn boxed_encoding<'b, B: Below>(
     below: B,

@@ -24,7 +24,7 @@ use demangle_text::{Error, IndexStr, Result, consume, parse_unsigned};
 use demangle_vocab::StandardBuiltinType;
 use std::alloc::Global;
 
-/// A builtin type: a word of the table, a type of a compiler's own, or one with a width. ABI section 5.1.5.2.
+/// A builtin type: a word of the table, a compiler's own type, or one with a width in bits. ABI section 5.1.5.2.
 ///
 /// ```text
 /// <builtin-type> ::= v | w | b | c | ..   # a word of the table
@@ -91,7 +91,7 @@ pub fn parametric_builtin_type<'b, B: Below>(
     Err(Error::UnexpectedText)
 }
 
-/// A floating type with a width, behind `DF`.
+/// A floating-point type with a width, after its `DF`.
 #[tactic(auto, unfolding(demangle_forms::specs::BuiltinForms::float_at))]
 fn float_type<'b>(
     depth: Depth,
@@ -114,7 +114,7 @@ fn float_type<'b>(
     Ok((ParametricBuiltinType::FloatN(width as isize), rest))
 }
 
-/// Whether a `_BitInt` type has a sign.
+/// Whether a `_BitInt` type is signed.
 #[derive(Clone, Copy)]
 pub enum Signedness {
     Signed,
@@ -124,7 +124,7 @@ pub enum Signedness {
 impl Signedness {
     ghost use Rattle.demangle_parse_types.specs.Signs.{bits_expression_tag, bits_tag};
 
-    /// The type of so many bits.
+    /// The type with this width.
     fn of_number(self, width: isize) -> ParametricBuiltinType
         ensures { tree_of_parametric_builtin_type result ≡ node (bits_tag self) (number width end) end }
     {
@@ -134,7 +134,7 @@ impl Signedness {
         }
     }
 
-    /// The type of as many bits as the expression says.
+    /// The type whose width is this expression.
     fn of_expression(self, width: NonSubstitution) -> ParametricBuiltinType
         ensures { tree_of_parametric_builtin_type result
             ≡ node (bits_expression_tag self) (tree_of_non_substitution width) end }
@@ -146,7 +146,7 @@ impl Signedness {
     }
 }
 
-/// A `_BitInt` type behind its letter. A width that is an expression is a new component of the second list.
+/// A `_BitInt` type, after its `DB` or `DU`. A width that is an expression becomes a component of the second list.
 #[tactic(auto, using(demangle_forms::proofs::Lasting::lasting), unfolding(demangle_forms::specs::BuiltinForms::bits_at))]
 fn bit_int<'b, B: Below>(
     below: B,

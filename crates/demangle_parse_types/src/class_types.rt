@@ -34,9 +34,8 @@ pub fn class_enum_type<'b, B: Below>(
         (table_of subs.old) (table_of subs.new) }
 {
     let depth = depth.enter()?;
-    match passed(boxed_name(below, alloc, depth, subs, input))? {
-        Ok((name, rest)) => return Ok((ClassEnumType::Named(name), rest)),
-        Err(_) => {}
+    if let Ok((name, rest)) = passed(boxed_name(below, alloc, depth, subs, input))? {
+        return Ok((ClassEnumType::Named(name), rest));
     }
     let rest = consume(b"T", input)?;
     if let Ok(rest) = consume(b"s", rest) {
@@ -52,7 +51,7 @@ pub fn class_enum_type<'b, B: Below>(
     Ok((ClassEnumType::ElaboratedEnum(name), rest))
 }
 
-/// The type of an expression, ABI section 5.1.5: `t` where it is a name or a member access.
+/// The type of an expression, ABI section 5.1.5: `Dt` where that is a name or a member access, else `DT`.
 ///
 /// ```text
 /// <decltype> ::= Dt <expression> E | DT <expression> E

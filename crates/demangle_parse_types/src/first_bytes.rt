@@ -1,4 +1,4 @@
-//! With which alternatives the next bytes leave a type: those before can't begin with them, and needn't be tried.
+//! From which alternative on a type must be tried, by the next bytes. Those before it can't begin with them.
 
 ghost use Rattle.std.specs.Prelude.{◌≡◌, ◌||◌, true, ◌∷◌};
 ghost use Rattle.demangle_text.specs.Spot.{spot};
@@ -14,19 +14,19 @@ ghost use Rattle.demangle_parse_types.specs.TypeStarts.{form_of_start};
 use demangle_leaf_rows::Depth;
 use demangle_text::IndexStr;
 
-/// How many levels an alternative goes deep, at the most, that can't begin with the next byte.
+/// The most levels that a skipped alternative enters before it fails.
 const SHALLOW: u32 = 8;
 
-/// With which alternative a type is begun.
+/// The first alternative of a type that must be tried.
 #[derive(Clone, Copy)]
 pub enum TypeStart {
-    /// The first one, a builtin type.
+    /// Builtin types, the first of all.
     All,
     /// Qualifiers: `r`, `V` or `K`.
     Qualified,
     /// Classes and enumerations: a digit, `N`, `Z`, `L`, `C` or `St`.
     Names,
-    /// References, and what comes with classes behind them: `S` and no `t`.
+    /// Substitutions, then the alternatives from classes on: `S` and no `t`.
     References,
     /// Functions: `F`.
     Functions,
@@ -34,12 +34,12 @@ pub enum TypeStart {
     Shapes,
     /// Template parameters: `T` and a number or `_`.
     Templates,
-    /// The words before types, the last alternatives; a byte with which no type begins is refused there.
+    /// The marks before types, the last alternatives. A byte with which no type begins is refused there.
     Marks,
 }
 
-/// Where the type begins. Close to the limit of levels that is always the first alternative, since one that is only
-/// tried may reach the limit.
+/// The first alternative that must be tried. Close to the limit of levels that is the first of all: even an alternative
+/// that can't begin with the next bytes may reach the limit before it fails.
 #[tactic(auto, using(demangle_forms::proofs::TypeStarts::type_starts))]
 pub fn type_start<'b>(depth: Depth, input: IndexStr<'b>) -> TypeStart
     ensures { (table : Table) → type_handle_at (cread depth.levels) depth.conversion (here (spot input.entry) table)
@@ -51,7 +51,7 @@ pub fn type_start<'b>(depth: Depth, input: IndexStr<'b>) -> TypeStart
     start_of(input)
 }
 
-/// Where the next bytes leave a type.
+/// The same by the next bytes alone, where no skipped alternative reaches the limit.
 fn start_of<'b>(input: IndexStr<'b>) -> TypeStart
     ensures { leaves_type (form_of_start result) (spot input.entry).left ≡ true }
 {
@@ -61,7 +61,7 @@ fn start_of<'b>(input: IndexStr<'b>) -> TypeStart
     }
 }
 
-/// The same by the first byte, and the bytes behind it.
+/// The same by the first byte and the bytes after it.
 fn start_by(first: u8, rest: &[u8]) -> TypeStart
     ensures { leaves_type (form_of_start result) (first ∷ rest.now) ≡ true }
 {
@@ -89,7 +89,7 @@ fn start_by(first: u8, rest: &[u8]) -> TypeStart
     }
 }
 
-/// Whether a name of `std` stands there, behind its `S`.
+/// Whether a `t` is next, after an `S`: the two stand for `std`.
 pub fn begins_std(rest: &[u8]) -> bool
     ensures { result ≡ next_is (these "t") rest.now }
 {
@@ -99,7 +99,7 @@ pub fn begins_std(rest: &[u8]) -> bool
     }
 }
 
-/// Whether the number of a template parameter stands there, or its end.
+/// Whether the number of a template parameter is next, or the `_` that ends it.
 fn begins_number(rest: &[u8]) -> bool
     ensures { result ≡ (next_is Class.digits rest.now || next_is (these "_") rest.now) }
 {

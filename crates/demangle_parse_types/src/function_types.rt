@@ -14,13 +14,13 @@ use crate::boxes::boxed_expression;
 use demangle_answers::{begun, grown, kept, may_miss};
 use demangle_below::Below;
 use demangle_entries::{BareFunctionType, CvQualifiers, ExceptionSpec, FunctionType, TypeHandle};
-use demangle_leaf_rows::{Depth, ReadLeaf};
-use demangle_row_parts::{optional_ref_qualifier, optional_word};
+use demangle_leaf_rows::{Depth, ReadLeaf, optional_word};
+use demangle_row_parts::optional_ref_qualifier;
 use demangle_table::SubstitutionTable;
 use demangle_text::{IndexStr, Result, consume};
 use std::alloc::Global;
 
-/// What a function's type says of exceptions, ABI section 5.1.5.3.
+/// What a function's type says about exceptions, ABI section 5.1.5.3.
 ///
 /// ```text
 /// <exception-spec> ::= Do | DO <expression> E
@@ -49,7 +49,7 @@ pub fn exception_spec<'b, B: Below>(
     Ok((ExceptionSpec::Computed(value), rest))
 }
 
-/// What a function's type says of exceptions, or nothing.
+/// What a function's type says about exceptions, or nothing.
 #[tactic(auto, unfolding(demangle_grammar::specs::Code::optional_at))]
 fn optional_exception_spec<'b, B: Below>(
     below: B,
@@ -72,8 +72,7 @@ fn optional_exception_spec<'b, B: Below>(
     }
 }
 
-/// The type of a function, ABI section 5.1.5.3. `Dx` says that a transaction may call it, and `Y` that it is a function
-/// of C.
+/// The type of a function, ABI section 5.1.5.3. `Dx` says that a transaction may call it, `Y` that it has C linkage.
 ///
 /// ```text
 /// <function-type> ::= [<CV-qualifiers>] [<exception-spec>] [Dx] F [Y] <bare-function-type> [<ref-qualifier>] E
@@ -114,7 +113,7 @@ pub fn function_type<'b, B: Below>(
     Ok((function, rest))
 }
 
-/// The types of a function: of its result, where it is written, and of its parameters. ABI section 5.1.5.3.
+/// The types of a function: that of its result, where it is written, and those of its parameters. ABI section 5.1.5.3.
 ///
 /// ```text
 /// <bare-function-type> ::= <signature type>+
@@ -137,7 +136,7 @@ pub fn bare_function_type<'b, B: Below>(
     Ok((BareFunctionType(types), rest))
 }
 
-/// Types one after the other, one at least. For want of memory the answer is `OutOfMemory`.
+/// One type or more. Where memory runs out, the answer is `OutOfMemory`.
 #[tactic(auto, using(demangle_forms::proofs::Loops::type_list, demangle_forms::proofs::Lasting::lasting))]
 pub fn type_list<'b, B: Below>(
     below: B,

@@ -1,7 +1,7 @@
-//! The rows of types and template arguments (ABI sections 5.1.2, 5.1.5 and 5.1.6), over the rows that they lead back
-//! to.
+//! The rows of types, template arguments and literals, ABI sections 5.1.2, 5.1.5 and 5.1.6.
 //!
-//! A function a row, or a part of one. What a row reads again at fewer levels it calls through `below`.
+//! Each function reads a row or a part of one. The rows that these lead back to are called through `below`, with fewer
+//! levels left.
 #![tactic(auto)]
 
 mod arguments;

@@ -13,7 +13,7 @@ use demangle_row_parts::template_template_param_of;
 use demangle_table::SubstitutionTable;
 use demangle_text::{IndexStr, Result};
 
-/// A template that is a parameter, or a reference to one; a parameter is a new numbered component. ABI section 5.1.5.8.
+/// A template that is a parameter or a substitution. A parameter becomes a numbered component. ABI section 5.1.5.8.
 ///
 /// ```text
 /// <template-template-param> ::= <template-param> | <substitution>

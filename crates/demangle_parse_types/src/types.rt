@@ -1,4 +1,4 @@
-//! Types, ABI section 5.1.5: their alternatives in parts, in the order in which they are tried.
+//! Types, ABI section 5.1.5: their alternatives in groups, in the order in which they are tried.
 
 ghost use Rattle.std.specs.Prelude.{◌≡◌, ◌≤◌, ◌<◌, [], ◌∷◌};
 ghost use Rattle.demangle_text.specs.Spot.{spot};
@@ -28,7 +28,7 @@ use demangle_table::SubstitutionTable;
 use demangle_text::{Error, IndexStr, Result, consume};
 use std::alloc::Global;
 
-/// A type, ABI section 5.1.5. All but builtin types and references become numbered components.
+/// A type, ABI section 5.1.5. All but builtin types and substitutions become numbered components.
 ///
 /// ```text
 /// <type> ::= <builtin-type> | U <source-name> [<template-args>] <type> | <CV-qualifiers> <type>
@@ -53,7 +53,7 @@ pub fn type_handle_by<'b, B: Below>(
     type_alternatives(below, alloc, depth, subs, input)
 }
 
-/// The alternatives of a type, behind its level, from the first one on that the next bytes leave.
+/// The alternatives of a type whose level is entered, from the first one on that the next bytes allow.
 #[tactic(auto)]
 fn type_alternatives<'b, B: Below>(
     below: B,
@@ -71,7 +71,7 @@ fn type_alternatives<'b, B: Below>(
         TypeStart::All => any_type(below, alloc, depth, subs, input),
         TypeStart::Qualified => qualified_or_named(below, alloc, depth, subs, input),
         TypeStart::Names => type_names(below, alloc, depth, subs, input),
-        TypeStart::References => reference_or_named(below, alloc, depth, subs, input),
+        TypeStart::References => substitution_or_named(below, alloc, depth, subs, input),
         TypeStart::Functions => function_or_shape(below, alloc, depth, subs, input),
         TypeStart::Shapes => type_shapes(below, alloc, depth, subs, input),
         TypeStart::Templates => type_templates(below, alloc, depth, subs, input),
@@ -79,7 +79,7 @@ fn type_alternatives<'b, B: Below>(
     }
 }
 
-/// All alternatives: builtin types, those of compilers' own qualifiers, and what comes after these.
+/// All alternatives: builtin types, types with a compiler's own qualifier, and what comes after these.
 #[tactic(auto, using(demangle_forms::proofs::Lasting::lasting), unfolding(demangle_forms::specs::TypeForms::type_handle_at, demangle_forms::specs::Starts::qualified_types_at))]
 fn any_type<'b, B: Below>(
     below: B,
@@ -102,7 +102,7 @@ fn any_type<'b, B: Below>(
     qualified_or_named(below, alloc, depth, subs, input)
 }
 
-/// A type with a qualifier of a compiler's own: `U <source-name> [<template-args>] <type>`.
+/// A type with a compiler's own qualifier: `U <source-name> [<template-args>] <type>`.
 #[tactic(auto, using(demangle_forms::proofs::Lasting::lasting), unfolding(demangle_forms::specs::TypeForms::type_extension_at))]
 fn type_extension<'b, B: Below>(
     below: B,
@@ -129,7 +129,7 @@ fn type_extension<'b, B: Below>(
     Ok(Ok((handle, rest)))
 }
 
-/// A type with qualifiers, of which there is one at least; those of a function type are its own.
+/// A type with at least one qualifier. Those before a function type are part of that type, and are not read here.
 #[tactic(auto, using(demangle_forms::proofs::Lasting::lasting), unfolding(demangle_forms::specs::TypeForms::type_qualified_at))]
 fn type_qualified<'b, B: Below>(
     below: B,
@@ -176,9 +176,10 @@ fn qualified_or_named<'b, B: Below>(
     type_names(below, alloc, depth, subs, input)
 }
 
-/// A reference where no arguments follow, and else the alternatives from classes on: such a reference is no class.
+/// A substitution where no arguments follow, else the alternatives from classes on. Such a substitution is no class, so
+/// it may be tried first.
 #[tactic(auto, using(demangle_forms::proofs::Lasting::lasting), unfolding(demangle_forms::specs::Starts::referred_types_at, demangle_forms::specs::TypeForms::type_substitution_at))]
-fn reference_or_named<'b, B: Below>(
+fn substitution_or_named<'b, B: Below>(
     below: B,
     alloc: Global,
     depth: Depth,
@@ -198,7 +199,7 @@ fn reference_or_named<'b, B: Below>(
     type_names(below, alloc, depth, subs, input)
 }
 
-/// Classes and enumerations, references, and what comes after these.
+/// Classes and enumerations, substitutions, and what comes after these.
 #[tactic(auto, using(demangle_forms::proofs::Lasting::lasting), unfolding(demangle_forms::specs::TypeForms::type_names_at, demangle_forms::specs::Starts::function_types_at))]
 fn type_names<'b, B: Below>(
     below: B,
@@ -213,12 +214,9 @@ fn type_names<'b, B: Below>(
         (type_names_at (cread depth.levels) depth.conversion (here (spot input.entry) (table_of subs.old))) }
 {
     let mark = subs.lengths();
-    match passed(class_enum_type(below, alloc, depth, subs, input))? {
-        Ok((class, rest)) => {
-            let handle = add_type(subs, mark, TypeNode::ClassEnum(class))?;
-            return Ok((handle, rest));
-        }
-        Err(_) => {}
+    if let Ok((class, rest)) = passed(class_enum_type(below, alloc, depth, subs, input))? {
+        let handle = add_type(subs, mark, TypeNode::ClassEnum(class))?;
+        return Ok((handle, rest));
     }
     if let Ok(found) = type_substitution(depth, subs, input)? {
         return Ok(found);
@@ -241,17 +239,14 @@ fn function_or_shape<'b, B: Below>(
         (function_types_at (cread depth.levels) depth.conversion (here (spot input.entry) (table_of subs.old))) }
 {
     let mark = subs.lengths();
-    match passed(function_type(below, alloc, depth, subs, input))? {
-        Ok((function, rest)) => {
-            let handle = add_type(subs, mark, TypeNode::Function(function))?;
-            return Ok((handle, rest));
-        }
-        Err(_) => {}
+    if let Ok((function, rest)) = passed(function_type(below, alloc, depth, subs, input))? {
+        let handle = add_type(subs, mark, TypeNode::Function(function))?;
+        return Ok((handle, rest));
     }
     type_shapes(below, alloc, depth, subs, input)
 }
 
-/// A reference, which is a type where no arguments follow.
+/// A substitution, which is a type where no arguments follow.
 #[tactic(auto, unfolding(demangle_forms::specs::TypeForms::type_substitution_at))]
 fn type_substitution<'b>(
     depth: Depth,
@@ -286,19 +281,13 @@ fn type_shapes<'b, B: Below>(
         (type_shapes_at (cread depth.levels) depth.conversion (here (spot input.entry) (table_of subs.old))) }
 {
     let mark = subs.lengths();
-    match passed(array_type(below, alloc, depth, subs, input))? {
-        Ok((array, rest)) => {
-            let handle = add_type(subs, mark, TypeNode::Array(array))?;
-            return Ok((handle, rest));
-        }
-        Err(_) => {}
+    if let Ok((array, rest)) = passed(array_type(below, alloc, depth, subs, input))? {
+        let handle = add_type(subs, mark, TypeNode::Array(array))?;
+        return Ok((handle, rest));
     }
-    match passed(vector_type(below, alloc, depth, subs, input))? {
-        Ok((vector, rest)) => {
-            let handle = add_type(subs, mark, TypeNode::Vector(vector))?;
-            return Ok((handle, rest));
-        }
-        Err(_) => {}
+    if let Ok((vector, rest)) = passed(vector_type(below, alloc, depth, subs, input))? {
+        let handle = add_type(subs, mark, TypeNode::Vector(vector))?;
+        return Ok((handle, rest));
     }
     if let Ok((member, rest)) = passed(pointer_to_member_type(below, alloc, depth, subs, input))? {
         let handle = add_type(subs, mark, TypeNode::PointerToMember(member))?;
@@ -328,12 +317,9 @@ fn type_templates<'b, B: Below>(
         return Ok(found);
     }
     let mark = subs.lengths();
-    match passed(decltype(below, alloc, depth, subs, input))? {
-        Ok((ty, rest)) => {
-            let handle = add_type(subs, mark, TypeNode::Decltype(ty))?;
-            return Ok((handle, rest));
-        }
-        Err(_) => {}
+    if let Ok((ty, rest)) = passed(decltype(below, alloc, depth, subs, input))? {
+        let handle = add_type(subs, mark, TypeNode::Decltype(ty))?;
+        return Ok((handle, rest));
     }
     type_marks(below, alloc, depth, subs, input)
 }
@@ -364,9 +350,10 @@ fn type_param<'b, B: Below>(
     Ok(Ok((handle, rest)))
 }
 
-/// Whether no arguments follow, or those of a conversion operator whose type stands before them: then others follow
-/// them, which are the operator's own. The arguments are read ahead and given back. An inner failure says that what
-/// follows belongs to the parameter.
+/// Whether the parameter is the whole type: where no arguments follow, or, in a conversion operator's type, one list
+/// alone, which is then the operator's own, even if it can't be read. Where a second list follows, the first is the
+/// parameter's. The first is read ahead and given back. An inner failure says that what follows belongs to the
+/// parameter.
 #[tactic(auto, using(demangle_forms::proofs::Lasting::lasting), unfolding(demangle_grammar::specs::Code::trial_part))]
 fn stands_alone<'b, B: Below>(
     below: B,
@@ -400,7 +387,7 @@ fn stands_alone<'b, B: Below>(
     }
 }
 
-/// A template that is a parameter or a reference, with its arguments.
+/// A template that is a parameter or a substitution, with its arguments.
 #[tactic(auto, using(demangle_forms::proofs::Lasting::lasting), unfolding(demangle_forms::specs::TypeForms::type_template_at))]
 fn type_template<'b, B: Below>(
     below: B,
@@ -425,7 +412,7 @@ fn type_template<'b, B: Below>(
     Ok(Ok((handle, rest)))
 }
 
-/// A type behind a mark: `P`, `R`, `O`, `C`, `G` or `Dp`.
+/// A type after a mark: `P`, `R`, `O`, `C`, `G` or `Dp`.
 #[tactic(auto, using(demangle_forms::proofs::Lasting::lasting), unfolding(demangle_forms::specs::TypeForms::type_marks_at))]
 fn type_marks<'b, B: Below>(
     below: B,
