@@ -20,9 +20,9 @@ pub trait Parse: Sized {
     ghost tree: { Self → Core };
 
     /// The node at the front of the input and the rest behind it: what the ordered reading of the row finds. It adds
-    /// its components at the end of the table. Each refusal is the reading's, `TooMuchRecursion` exactly where it
-    /// enters a row at the limit, in an alternative that is only tried too; or it is `OutOfMemory`. A refusal leaves
-    /// the table as it was. The level and the conversion flag are as before after every answer.
+    /// its components at the end of the table. Each refusal is the reading's (`TooMuchRecursion` exactly where it
+    /// enters a row at the limit, even in an alternative that is only tried), or it is `OutOfMemory`. A refusal leaves
+    /// the table as it was. After every answer the level and the conversion flag are as they were before.
     fn parse<'b>(
         alloc: Global,
         ctx: &mut ParseContext,

@@ -1,4 +1,4 @@
-//! The whole parser, as what the readers of rows are handed.
+//! The whole parser, as the value that the readers of rows are handed.
 
 ghost use Rattle.std.specs.Prelude.{◌^◌};
 

@@ -17,7 +17,7 @@ use demangle_table::SubstitutionTable;
 use demangle_text::{IndexStr, Result};
 use std::alloc::Global;
 
-/// A type, ABI section 5.1.5, <type>.
+/// A type, ABI section 5.1.5, `<type>`.
 #[cycle(parser)]
 pub fn type_handle<'b>(
     alloc: Global,
@@ -40,7 +40,7 @@ pub fn type_handle<'b>(
     type_handle_by(below, alloc, depth, subs, input)
 }
 
-/// An expression, ABI section 5.1.6, <expression>.
+/// An expression, ABI section 5.1.6, `<expression>`.
 #[cycle(parser)]
 pub fn expression<'b>(
     alloc: Global,
@@ -63,7 +63,7 @@ pub fn expression<'b>(
     expression_by(below, alloc, depth, subs, input)
 }
 
-/// A template argument, ABI section 5.1.2, <template-arg>.
+/// A template argument, ABI section 5.1.2, `<template-arg>`.
 #[cycle(parser)]
 pub fn template_arg<'b>(
     alloc: Global,
@@ -86,7 +86,7 @@ pub fn template_arg<'b>(
     template_arg_by(below, alloc, depth, subs, input)
 }
 
-/// A name, ABI section 5.1.2, <name>.
+/// A name, ABI section 5.1.2, `<name>`.
 #[cycle(parser)]
 pub fn name<'b>(
     alloc: Global,
@@ -109,7 +109,7 @@ pub fn name<'b>(
     name_by(below, alloc, depth, subs, input)
 }
 
-/// A function, a variable or what the compiler makes, ABI section 5.1.2, <encoding>.
+/// A function, a variable or an entity that the compiler makes, ABI section 5.1.2, `<encoding>`.
 #[cycle(parser)]
 pub fn encoding<'b>(
     alloc: Global,
@@ -132,7 +132,7 @@ pub fn encoding<'b>(
     encoding_by(below, alloc, depth, subs, input)
 }
 
-/// A mangled name, ABI section 5.1.2, <mangled-name>.
+/// A mangled name, ABI section 5.1.2, `<mangled-name>`.
 #[cycle(parser)]
 pub fn mangled_name<'b>(
     alloc: Global,

@@ -1,4 +1,4 @@
-//! Calls, conversions, lists in braces, and the arguments behind new.
+//! Calls, conversions, lists in braces, and the arguments behind `new`.
 
 ghost use Rattle.std.specs.Prelude.{◌≡◌, ◌≤◌, ◌<◌, []};
 ghost use Rattle.demangle_text.specs.Spot.{spot};
@@ -21,7 +21,7 @@ use demangle_table::SubstitutionTable;
 use demangle_text::{IndexStr, Result, consume};
 use std::alloc::Global;
 
-/// What stands behind a word of calls, conversions and lists in braces.
+/// What follows the word of a call, a conversion or a list in braces.
 pub fn calls<'b, B: Below>(
     below: B,
     alloc: Global,
@@ -70,7 +70,7 @@ fn call<'b, B: Below>(
     Ok((Expression::Call(callee, arguments), rest))
 }
 
-/// A conversion behind its word, ABI section 5.1.6: of one value, or of none and of several in brackets.
+/// A conversion behind its word, ABI section 5.1.6: of one value, or of none or several in parentheses.
 ///
 /// ```text
 /// <expression> ::= cv <type> <expression> | cv <type> _ <expression>* E
@@ -151,7 +151,7 @@ fn list<'b, B: Below>(
     Ok((Expression::BracedInitList(values), rest))
 }
 
-/// The arguments in brackets behind new, ABI section 5.1.6.
+/// The arguments in parentheses behind `new`, ABI section 5.1.6.
 ///
 /// ```text
 /// <initializer> ::= pi <expression>* E

@@ -1,4 +1,4 @@
-//! Expressions of a word with an expression, a type, or both behind it.
+//! Expressions that are a word with an expression, a type, or both behind it.
 
 ghost use Rattle.std.specs.Prelude.{◌≡◌, ◌≤◌, ◌<◌, []};
 ghost use Rattle.demangle_text.specs.Spot.{spot};

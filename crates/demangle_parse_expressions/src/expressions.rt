@@ -1,4 +1,4 @@
-//! Expressions: the word at the front tells which of the alternatives stands there, or else they are tried in order.
+//! Expressions: a word at the front tells which of the alternatives stands there; without one they are tried in order.
 
 ghost use Rattle.std.specs.Prelude.{◌≡◌, ◌≤◌, ◌<◌, []};
 ghost use Rattle.demangle_text.specs.Spot.{spot};
@@ -53,7 +53,7 @@ pub fn expression_by<'b, B: Below>(
     alternatives(below, alloc, depth, subs, input)
 }
 
-/// The alternatives of an expression, behind its level, from the first one on that the next bytes leave.
+/// The alternatives of an expression whose level is entered, from the first one on that may begin with the next bytes.
 #[tactic(auto)]
 fn alternatives<'b, B: Below>(
     below: B,
@@ -69,9 +69,9 @@ fn alternatives<'b, B: Below>(
 {
     match expression_start(depth, input) {
         ExpressionStart::All => any_expression(below, alloc, depth, subs, input),
-        ExpressionStart::Parameters => parameters(below, alloc, depth, subs, input),
-        ExpressionStart::References => references(below, alloc, depth, subs, input),
-        ExpressionStart::Literals => literals(below, alloc, depth, subs, input),
+        ExpressionStart::Parameters => parameter_or_unresolved(below, alloc, depth, subs, input),
+        ExpressionStart::References => unresolved_or_literal(below, alloc, depth, subs, input),
+        ExpressionStart::Literals => literal_or_operator(below, alloc, depth, subs, input),
         ExpressionStart::Operators => operators(below, alloc, depth, subs, input),
     }
 }
@@ -97,10 +97,10 @@ fn any_expression<'b, B: Below>(
         let (fold, rest) = fold_expr(below, alloc, depth, subs, input)?;
         return Ok((Expression::Fold(fold), rest));
     }
-    names(below, alloc, depth, subs, input)
+    allocation_or_parameter(below, alloc, depth, subs, input)
 }
 
-/// What stands behind a word of its own.
+/// What follows a word of its own.
 fn worded<'b, B: Below>(
     below: B,
     alloc: Global,
@@ -128,7 +128,7 @@ fn worded<'b, B: Below>(
 
 /// New and delete, and what comes after these.
 #[tactic(auto, unfolding(demangle_forms::specs::ExpressionForms::names_at, crate::specs::ExpressionStarts::parameters_at))]
-fn names<'b, B: Below>(
+fn allocation_or_parameter<'b, B: Below>(
     below: B,
     alloc: Global,
     depth: Depth,
@@ -140,21 +140,19 @@ fn names<'b, B: Below>(
     ensures { Reads tree_of_expression result (table_of subs.old) (table_of subs.new)
         (names_at (cread depth.levels) depth.conversion (here (spot input.entry) (table_of subs.old))) }
 {
-    match passed(global_allocation(below, alloc, depth, subs, input))? {
-        Ok(found) => return Ok(found),
-        Err(_) => {}
+    if let Ok(found) = passed(global_allocation(below, alloc, depth, subs, input))? {
+        return Ok(found);
     }
     let forms = AllocationForms::plain();
-    match passed(allocation(below, alloc, depth, subs, forms, input))? {
-        Ok(found) => return Ok(found),
-        Err(_) => {}
+    if let Ok(found) = passed(allocation(below, alloc, depth, subs, forms, input))? {
+        return Ok(found);
     }
-    parameters(below, alloc, depth, subs, input)
+    parameter_or_unresolved(below, alloc, depth, subs, input)
 }
 
 /// Parameters, and what comes after these.
 #[tactic(auto, using(demangle_nodes::proofs::Parts::expression_template_param, demangle_nodes::proofs::Parts::expression_function_param), unfolding(crate::specs::ExpressionStarts::parameters_at))]
-fn parameters<'b, B: Below>(
+fn parameter_or_unresolved<'b, B: Below>(
     below: B,
     alloc: Global,
     depth: Depth,
@@ -172,12 +170,12 @@ fn parameters<'b, B: Below>(
     if let Ok((param, rest)) = passed(FunctionParam::read_leaf(depth, input))? {
         return Ok((Expression::FunctionParam(param), rest));
     }
-    references(below, alloc, depth, subs, input)
+    unresolved_or_literal(below, alloc, depth, subs, input)
 }
 
 /// Unresolved names, and what comes after these.
 #[tactic(auto, using(demangle_nodes::proofs::Parts::expression_unresolved_name), unfolding(demangle_forms::specs::ExpressionForms::references_at, crate::specs::ExpressionStarts::literals_at))]
-fn references<'b, B: Below>(
+fn unresolved_or_literal<'b, B: Below>(
     below: B,
     alloc: Global,
     depth: Depth,
@@ -189,16 +187,15 @@ fn references<'b, B: Below>(
     ensures { Reads tree_of_expression result (table_of subs.old) (table_of subs.new)
         (references_at (cread depth.levels) depth.conversion (here (spot input.entry) (table_of subs.old))) }
 {
-    match passed(unresolved_name(below, alloc, depth, subs, input))? {
-        Ok((name, rest)) => return Ok((Expression::UnresolvedName(name), rest)),
-        Err(_) => {}
+    if let Ok((name, rest)) = passed(unresolved_name(below, alloc, depth, subs, input))? {
+        return Ok((Expression::UnresolvedName(name), rest));
     }
-    literals(below, alloc, depth, subs, input)
+    literal_or_operator(below, alloc, depth, subs, input)
 }
 
 /// Literals and entities, and operators with their operands.
 #[tactic(auto, using(demangle_nodes::proofs::Parts::expression_primary), unfolding(crate::specs::ExpressionStarts::literals_at))]
-fn literals<'b, B: Below>(
+fn literal_or_operator<'b, B: Below>(
     below: B,
     alloc: Global,
     depth: Depth,
@@ -210,9 +207,8 @@ fn literals<'b, B: Below>(
     ensures { Reads tree_of_expression result (table_of subs.old) (table_of subs.new)
         (literals_at (cread depth.levels) depth.conversion (here (spot input.entry) (table_of subs.old))) }
 {
-    match passed(expr_primary(below, alloc, depth, subs, input))? {
-        Ok((primary, rest)) => return Ok((Expression::Primary(primary), rest)),
-        Err(_) => {}
+    if let Ok((primary, rest)) = passed(expr_primary(below, alloc, depth, subs, input))? {
+        return Ok((Expression::Primary(primary), rest));
     }
     operators(below, alloc, depth, subs, input)
 }

@@ -1,5 +1,4 @@
-//! With which alternatives the next bytes leave an expression: those before can't begin with them, and needn't be
-//! tried.
+//! From which alternative on an expression must be tried, by the next bytes: those before it can't begin with them.
 
 ghost use Rattle.std.specs.Prelude.{◌≡◌, true, ◌∷◌};
 ghost use Rattle.demangle_text.specs.Spot.{spot};
@@ -11,10 +10,10 @@ ghost use Rattle.demangle_parse_expressions.specs.ExpressionStarts.{expression_f
 use demangle_leaf_rows::Depth;
 use demangle_text::IndexStr;
 
-/// How many levels an alternative goes deep, at the most, that can't begin with the next byte.
+/// The most levels that a skipped alternative enters before it fails.
 const SHALLOW: u32 = 4;
 
-/// With which alternative an expression is begun.
+/// The alternative from which on an expression must be tried.
 #[derive(Clone, Copy)]
 pub enum ExpressionStart {
     /// The first one, a word of its own.
@@ -25,12 +24,12 @@ pub enum ExpressionStart {
     References,
     /// Literals: `L`.
     Literals,
-    /// Operators, the last alternative; a byte with which no expression begins is refused there.
+    /// Operators, the last alternative; a byte that begins no expression is refused there.
     Operators,
 }
 
-/// Where the expression begins. Close to the limit of levels that is always the first alternative, since one that is
-/// only tried may reach the limit.
+/// The alternative to begin with. Close to the limit of levels it is always the first, since one that is only tried may
+/// reach the limit.
 #[tactic(auto, using(crate::proofs::ExpressionStarts::expression_starts))]
 pub fn expression_start<'b>(depth: Depth, input: IndexStr<'b>) -> ExpressionStart
     ensures { (table : Table) → expression_at (cread depth.levels) depth.conversion (here (spot input.entry) table)
@@ -42,7 +41,7 @@ pub fn expression_start<'b>(depth: Depth, input: IndexStr<'b>) -> ExpressionStar
     start_of(input)
 }
 
-/// Where the next bytes leave an expression.
+/// The alternative to begin with, by the next bytes alone.
 fn start_of<'b>(input: IndexStr<'b>) -> ExpressionStart
     ensures { leaves_expression result (spot input.entry).left ≡ true }
 {
@@ -52,7 +51,7 @@ fn start_of<'b>(input: IndexStr<'b>) -> ExpressionStart
     }
 }
 
-/// The same by the first byte, whatever stands behind it.
+/// The same by the first byte, whatever follows it.
 fn start_by(first: u8, rest: &[u8]) -> ExpressionStart
     ensures { leaves_expression result (first ∷ rest.now) ≡ true }
 {

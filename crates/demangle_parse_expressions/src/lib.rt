@@ -1,5 +1,7 @@
-//! The rows of expressions, ABI section 5.1.6, over what lies below them: expressions, unresolved names, and what both
-//! are made of.
+//! The rows of expressions, of unresolved names, and of what both are made of (ABI section 5.1.6), over the rows that
+//! they lead back to.
+//!
+//! Each function reads a row or a part of one. What a row reads again at fewer levels it calls through `below`.
 #![tactic(auto)]
 
 mod calls;

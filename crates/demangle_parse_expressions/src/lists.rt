@@ -1,4 +1,4 @@
-//! Lists of expressions and of the scopes of a name.
+//! Lists of expressions, and of the scopes of an unresolved name.
 
 ghost use Rattle.std.specs.Prelude.{◌≡◌, ◌<◌, []};
 ghost use Rattle.demangle_text.specs.Spot.{spot};
@@ -17,7 +17,7 @@ use demangle_table::SubstitutionTable;
 use demangle_text::{IndexStr, Result};
 use std::alloc::Global;
 
-/// Expressions one after the other, of which there may be none. For want of memory the answer is `OutOfMemory`.
+/// Expressions one after the other, or none. For want of memory the answer is `OutOfMemory`.
 #[tactic(auto, using(demangle_forms::proofs::Loops::expression_list, demangle_forms::proofs::Lasting::lasting))]
 pub fn all_expressions<'b, B: Below>(
     below: B,
@@ -48,9 +48,9 @@ pub fn all_expressions<'b, B: Below>(
     }
 }
 
-/// Scopes one after the other, one at least. For want of memory the answer is `OutOfMemory`.
+/// Scopes one after the other, at least one. For want of memory the answer is `OutOfMemory`.
 #[tactic(auto, using(demangle_forms::proofs::Loops::level_list, demangle_forms::proofs::Lasting::lasting))]
-pub fn some_levels<'b, B: Below>(
+pub fn some_scopes<'b, B: Below>(
     below: B,
     alloc: Global,
     depth: Depth,
@@ -65,18 +65,18 @@ pub fn some_levels<'b, B: Below>(
 {
     let mark = subs.lengths();
     let (first, rest) = unresolved_qualifier_level(below, alloc, depth, subs, input)?;
-    let mut levels = begun(alloc, subs, mark, first)?;
+    let mut scopes = begun(alloc, subs, mark, first)?;
     let mut rest = rest;
     loop {
         let answer = unresolved_qualifier_level(below, alloc, depth, subs, rest);
-        let (list, more) = match grown(subs, mark, levels, answer) {
+        let (list, more) = match grown(subs, mark, scopes, answer) {
             Ok(found) => found,
             Err(error) => return Err(error),
         };
-        levels = list;
+        scopes = list;
         match more {
             Some(after) => rest = after,
-            None => return Ok((levels, rest)),
+            None => return Ok((scopes, rest)),
         }
     }
 }

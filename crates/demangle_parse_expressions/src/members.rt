@@ -28,7 +28,7 @@ use demangle_table::SubstitutionTable;
 use demangle_text::{IndexStr, Result, consume};
 use std::alloc::Global;
 
-/// What stands behind a word of parts of objects, members and packs.
+/// What follows the word of a part of an object, of a member, of a pack or of a rethrow.
 #[tactic(auto, using(demangle_nodes::proofs::Parts::expression_rethrow))]
 pub fn members<'b, B: Below>(
     below: B,
@@ -157,7 +157,7 @@ fn pointer_to_member<'b, B: Below>(
     Ok((Expression::PointerToMember(object, member), rest))
 }
 
-/// The size of a pack behind its word, ABI section 5.1.6: a template's parameter or a function's.
+/// The size of a pack behind its word, ABI section 5.1.6: of a template parameter or of a function parameter.
 ///
 /// ```text
 /// <expression> ::= sZ <template-param> | sZ <function-param>
@@ -174,7 +174,7 @@ fn sizeof_pack<'b>(depth: Depth, input: IndexStr<'b>) -> Result<(Expression, Ind
     Ok((Expression::SizeofFunctionPack(param), rest))
 }
 
-/// The size of a pack that an alias template took, behind its word, ABI section 5.1.6.
+/// The size of a template parameter pack that an alias template captured, behind its word, ABI section 5.1.6.
 ///
 /// ```text
 /// <expression> ::= sP <template-arg>* E
@@ -200,7 +200,7 @@ fn sizeof_captured_pack<'b, B: Below>(
 }
 
 /// The name of a member. With template arguments behind it the name becomes a component of the second list, after those
-/// that its arguments add. ABI section 5.1.6 has an <unresolved-name> in its place.
+/// that its arguments add. ABI section 5.1.6 has an `<unresolved-name>` in its place.
 ///
 /// ```text
 /// <member name> ::= <unqualified-name> [<template-args>]

@@ -41,8 +41,8 @@ pub fn global_allocation<'b, B: Below>(
     allocation(below, alloc, depth, subs, forms, rest)
 }
 
-/// New or delete, ABI section 5.1.6, in the forms of the place. What fails here may still be an operator of the same
-/// word and its operands.
+/// New or delete, ABI section 5.1.6, in the global forms or in the plain ones. What fails here may still be an operator
+/// of the same word with its operands.
 ///
 /// ```text
 /// <expression> ::= nw .. | na .. | dl <expression> | da <expression>
@@ -65,23 +65,21 @@ pub fn allocation<'b, B: Below>(
     if !has_more(2, input) {
         return Err(Error::UnexpectedEnd);
     }
-    match passed(new_of(below, alloc, depth, subs, b"nw", forms.new_object, input))? {
-        Ok(found) => return Ok(found),
-        Err(_) => {}
+    if let Ok(found) = passed(new_of(below, alloc, depth, subs, b"nw", forms.new_object, input))? {
+        return Ok(found);
     }
-    match passed(new_of(below, alloc, depth, subs, b"na", forms.new_array, input))? {
-        Ok(found) => return Ok(found),
-        Err(_) => {}
+    if let Ok(found) = passed(new_of(below, alloc, depth, subs, b"na", forms.new_array, input))? {
+        return Ok(found);
     }
-    match passed(delete_of(below, alloc, depth, subs, b"dl", forms.delete_object, input))? {
-        Ok(found) => return Ok(found),
-        Err(_) => {}
+    let form = forms.delete_object;
+    if let Ok(found) = passed(delete_of(below, alloc, depth, subs, b"dl", form, input))? {
+        return Ok(found);
     }
     let form = forms.delete_array;
     delete_of(below, alloc, depth, subs, b"da", form, input)
 }
 
-/// New behind this word: its placement, its type, and its initializer or none.
+/// New with this word at its front: its placement, its type, and its initializer or none.
 ///
 /// ```text
 /// <new> ::= <word> <expression>* _ <type> E | <word> <expression>* _ <type> <initializer>
@@ -116,7 +114,7 @@ fn new_of<'b, B: Below>(
     Ok((form.of(placement, ty, Some(initializer)), rest))
 }
 
-/// Delete behind this word.
+/// Delete with this word at its front.
 #[tactic(auto, using(crate::proofs::MissingWords::word_missing), unfolding(demangle_forms::specs::ExpressionForms::delete_at))]
 fn delete_of<'b, B: Below>(
     below: B,

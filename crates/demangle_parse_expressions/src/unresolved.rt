@@ -10,7 +10,7 @@ ghost use Rattle.demangle_forms.specs.UnresolvedForms.{global_name_at, scoped_na
 ghost use Rattle.demangle_forms.specs.UnresolvedForms.{type_name_at, type_scopes_at};
 ghost use Rattle.demangle_answers.specs.Reads.{Reads, ReadsRow, Tries};
 
-use crate::lists::some_levels;
+use crate::lists::some_scopes;
 use crate::unresolved_parts::{base_unresolved_name, unresolved_type_handle};
 use demangle_answers::{kept, passed, restored};
 use demangle_below::Below;
@@ -45,9 +45,8 @@ pub fn unresolved_name<'b, B: Below>(
     if let Ok(rest) = consume(b"gs", input) {
         return global_name(below, alloc, depth, subs, rest);
     }
-    match passed(base_unresolved_name(below, alloc, depth, subs, input))? {
-        Ok((name, rest)) => return Ok((UnresolvedName::Name(name), rest)),
-        Err(_) => {}
+    if let Ok((name, rest)) = passed(base_unresolved_name(below, alloc, depth, subs, input))? {
+        return Ok((UnresolvedName::Name(name), rest));
     }
     let rest = consume(b"sr", input)?;
     scoped_name(below, alloc, depth, subs, rest)
@@ -71,17 +70,16 @@ fn global_name<'b, B: Below>(
     ensures { Reads tree_of_unresolved_name result (table_of subs.old) (table_of subs.new)
         (close (global_name_at (cread depth.levels) depth.conversion (here (spot input.entry) (table_of subs.old)))) }
 {
-    match passed(base_unresolved_name(below, alloc, depth, subs, input))? {
-        Ok((name, rest)) => return Ok((UnresolvedName::Global(name), rest)),
-        Err(_) => {}
+    if let Ok((name, rest)) = passed(base_unresolved_name(below, alloc, depth, subs, input))? {
+        return Ok((UnresolvedName::Global(name), rest));
     }
     let mark = subs.lengths();
     let rest = consume(b"sr", input)?;
-    let (levels, rest) = some_levels(below, alloc, depth, subs, rest)?;
-    let (levels, rest) = kept(subs, mark, levels, consume(b"E", rest))?;
+    let (scopes, rest) = some_scopes(below, alloc, depth, subs, rest)?;
+    let (scopes, rest) = kept(subs, mark, scopes, consume(b"E", rest))?;
     let answer = base_unresolved_name(below, alloc, depth, subs, rest);
-    let (levels, (name, rest)) = kept(subs, mark, levels, answer)?;
-    Ok((UnresolvedName::GlobalNested2(levels, name), rest))
+    let (scopes, (name, rest)) = kept(subs, mark, scopes, answer)?;
+    Ok((UnresolvedName::GlobalNested2(scopes, name), rest))
 }
 
 /// A name in a type or in scopes, behind `sr`.
@@ -101,9 +99,8 @@ fn scoped_name<'b, B: Below>(
     if let Ok(rest) = consume(b"N", input) {
         return name_in_type_scopes(below, alloc, depth, subs, rest);
     }
-    match name_in_type(below, alloc, depth, subs, input)? {
-        Ok(found) => return Ok(found),
-        Err(_) => {}
+    if let Ok(found) = name_in_type(below, alloc, depth, subs, input)? {
+        return Ok(found);
     }
     name_in_scopes(below, alloc, depth, subs, input)
 }
@@ -128,15 +125,15 @@ fn name_in_type_scopes<'b, B: Below>(
 {
     let mark = subs.lengths();
     let (ty, rest) = unresolved_type_handle(below, alloc, depth, subs, input)?;
-    let answer = some_levels(below, alloc, depth, subs, rest);
-    let (levels, rest) = restored(subs, mark, answer)?;
-    let (levels, rest) = kept(subs, mark, levels, consume(b"E", rest))?;
+    let answer = some_scopes(below, alloc, depth, subs, rest);
+    let (scopes, rest) = restored(subs, mark, answer)?;
+    let (scopes, rest) = kept(subs, mark, scopes, consume(b"E", rest))?;
     let answer = base_unresolved_name(below, alloc, depth, subs, rest);
-    let (levels, (name, rest)) = kept(subs, mark, levels, answer)?;
-    Ok((UnresolvedName::Nested1(ty, levels, name), rest))
+    let (scopes, (name, rest)) = kept(subs, mark, scopes, answer)?;
+    Ok((UnresolvedName::Nested1(ty, scopes, name), rest))
 }
 
-/// A name in a type, behind `sr`. The inner failure is that of the type, so that scopes are to be tried.
+/// A name in a type, behind `sr`. An inner failure is that of the type: scopes are then to be tried.
 ///
 /// ```text
 /// <unresolved-name> ::= sr <unresolved-type> <base-unresolved-name>
@@ -183,9 +180,9 @@ fn name_in_scopes<'b, B: Below>(
         (close (scopes_name_at (cread depth.levels) depth.conversion (here (spot input.entry) (table_of subs.old)))) }
 {
     let mark = subs.lengths();
-    let (levels, rest) = some_levels(below, alloc, depth, subs, input)?;
-    let (levels, rest) = kept(subs, mark, levels, consume(b"E", rest))?;
+    let (scopes, rest) = some_scopes(below, alloc, depth, subs, input)?;
+    let (scopes, rest) = kept(subs, mark, scopes, consume(b"E", rest))?;
     let answer = base_unresolved_name(below, alloc, depth, subs, rest);
-    let (levels, (name, rest)) = kept(subs, mark, levels, answer)?;
-    Ok((UnresolvedName::Nested2(levels, name), rest))
+    let (scopes, (name, rest)) = kept(subs, mark, scopes, answer)?;
+    Ok((UnresolvedName::Nested2(scopes, name), rest))
 }

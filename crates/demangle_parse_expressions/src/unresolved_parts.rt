@@ -69,7 +69,8 @@ pub fn simple_id<'b, B: Below>(
     Ok((SimpleId(name, args), rest))
 }
 
-/// The type that an unresolved name is of, ABI section 5.1.6. But for a reference it becomes a numbered component.
+/// The type that an unresolved name belongs to, ABI section 5.1.6. Unless it is a substitution, it becomes a numbered
+/// component.
 ///
 /// ```text
 /// <unresolved-type> ::= <template-param> [<template-args>] | <decltype> | <substitution>
@@ -151,9 +152,8 @@ pub fn base_unresolved_name<'b, B: Below>(
         depth.levels depth.conversion input.entry result (table_of subs.old) (table_of subs.new) }
 {
     let depth = depth.enter()?;
-    match passed(simple_id(below, alloc, depth, subs, input))? {
-        Ok((id, rest)) => return Ok((BaseUnresolvedName::Name(id), rest)),
-        Err(_) => {}
+    if let Ok((id, rest)) = passed(simple_id(below, alloc, depth, subs, input))? {
+        return Ok((BaseUnresolvedName::Name(id), rest));
     }
     if let Ok(rest) = consume(b"on", input) {
         let mark = subs.lengths();

@@ -2,7 +2,7 @@ use Rattle.demangle_grammar.specs.Rule.{Row}
 use Rattle.demangle_nodes.specs.TreeNodes.{tree_of_unresolved_qualifier_level}
 use Rattle.demangle_forms.proofs.Lasting.{cut_is}
 use Rattle.demangle_parse_types.proofs.ListEnds.{list_cut, list_ends}
-use Rattle.demangle_parse_expressions.proofs.lists.some_levels.Goals as goal
+use Rattle.demangle_parse_expressions.proofs.lists.some_scopes.Goals as goal
 
 pub returns-in-Err : goal.returns-in-Err
 returns-in-Err g c =
