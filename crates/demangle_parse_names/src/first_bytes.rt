@@ -1,4 +1,4 @@
-//! With which alternatives the next bytes leave a name: those before can't begin with them, and needn't be tried.
+//! From which alternative on a name must be tried, by the next bytes.
 
 ghost use Rattle.std.specs.Prelude.{◌≡◌, true, ◌∷◌};
 ghost use Rattle.demangle_text.specs.Spot.{spot};
@@ -12,22 +12,22 @@ use demangle_leaf_rows::Depth;
 use demangle_parse_types::begins_std;
 use demangle_text::IndexStr;
 
-/// How many levels an alternative goes deep, at the most, that can't begin with the next byte.
+/// The most levels that a skipped alternative enters before it fails.
 const SHALLOW: u32 = 5;
 
-/// With which alternative a name is begun.
+/// From which alternative on a name is tried.
 #[derive(Clone, Copy)]
 pub enum NameStart {
-    /// The first one, a nested name.
+    /// Nested names, the first alternative.
     All,
-    /// Templates that are references: `S` and no `t`.
+    /// Templates that are substitutions: `S` and no `t`.
     Templates,
     /// Local names, the last alternative; a byte with which no name begins is refused there.
     Locals,
 }
 
-/// Where the name begins. Close to the limit of levels that is always the first alternative, since one that is only
-/// tried may reach the limit.
+/// From which alternative on the name is tried. Close to the limit of levels it is always the first, since trying an
+/// alternative may already reach the limit.
 #[tactic(auto, using(demangle_forms::proofs::NameStarts::name_starts))]
 pub fn name_start<'b>(depth: Depth, input: IndexStr<'b>) -> NameStart
     ensures { (table : Table) → names_at (cread depth.levels) depth.conversion (here (spot input.entry) table)
@@ -39,7 +39,7 @@ pub fn name_start<'b>(depth: Depth, input: IndexStr<'b>) -> NameStart
     start_of(input)
 }
 
-/// Where the next bytes leave a name.
+/// An alternative before which none can begin with the next bytes.
 fn start_of<'b>(input: IndexStr<'b>) -> NameStart
     ensures { leaves_name (form_of_start result) (spot input.entry).left ≡ true }
 {
@@ -49,7 +49,7 @@ fn start_of<'b>(input: IndexStr<'b>) -> NameStart
     }
 }
 
-/// The same by the first byte, and the bytes behind it.
+/// The same by the first byte and those behind it.
 fn start_by(first: u8, rest: &[u8]) -> NameStart
     ensures { leaves_name (form_of_start result) (first ∷ rest.now) ≡ true }
 {
@@ -66,9 +66,9 @@ fn start_by(first: u8, rest: &[u8]) -> NameStart
     }
 }
 
-/// Whether the name of a template is a reference for certain, so that no unscoped name needs to be tried.
+/// Whether the name of a template is certainly a substitution, so that no unscoped name needs to be tried.
 #[tactic(auto, using(demangle_forms::proofs::NameStarts::handle_starts))]
-pub fn is_reference<'b>(depth: Depth, input: IndexStr<'b>) -> bool
+pub fn is_substitution<'b>(depth: Depth, input: IndexStr<'b>) -> bool
     ensures { (table : Table)
         → template_handles_at (cread depth.levels) depth.conversion (here (spot input.entry) table)
         ≡ template_handle_from result (cread depth.levels) depth.conversion (here (spot input.entry) table) }
@@ -76,11 +76,11 @@ pub fn is_reference<'b>(depth: Depth, input: IndexStr<'b>) -> bool
     if depth.levels < SHALLOW {
         return false;
     }
-    begins_reference(input)
+    begins_substitution(input)
 }
 
-/// Whether a reference follows, and no name of `std`.
-fn begins_reference<'b>(input: IndexStr<'b>) -> bool
+/// Whether a substitution follows, and no name in `std`.
+fn begins_substitution<'b>(input: IndexStr<'b>) -> bool
     ensures { result ≡ refers (spot input.entry).left }
 {
     match input.as_slice() {

@@ -1,6 +1,6 @@
-//! The rows of names with their scopes (ABI sections 5.1.2, 5.1.4 and 5.1.7), over the rows that they lead back to.
+//! The rows of names with their scopes (ABI sections 5.1.2, 5.1.4 and 5.1.7), over the rows to which they lead back.
 //!
-//! A function a row, or a part of one. What a row reads again at fewer levels it calls through `below`.
+//! Each function reads a row or a part of one. What is read again with fewer levels left is called through `below`.
 #![tactic(auto)]
 
 mod encodings;

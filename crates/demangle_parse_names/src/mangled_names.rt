@@ -23,7 +23,7 @@ use demangle_table::SubstitutionTable;
 use demangle_text::{IndexStr, Result, consume, parse_unsigned};
 use std::alloc::Global;
 
-/// A whole mangled name. The underscores before `Z` are one or two before an encoding, three or four before that of a
+/// A whole mangled name. One or two underscores and `Z` stand before an encoding, three or four and `Z` before that of a
 /// block's function. ABI section 5.1.2; blocks, global constructors and types alone are additions of compilers.
 ///
 /// ```text
@@ -68,8 +68,7 @@ fn encoding_word<'b>(input: IndexStr<'b>) -> Result<IndexStr<'b>>
     if let Ok(rest) = consume(b"_Z", input) {
         return Ok(rest);
     }
-    let rest = consume(b"__Z", input)?;
-    Ok(rest)
+    consume(b"__Z", input)
 }
 
 /// The rest behind the word before the encoding of a block's function.
@@ -80,8 +79,7 @@ fn block_word<'b>(input: IndexStr<'b>) -> Result<IndexStr<'b>>
     if let Ok(rest) = consume(b"___Z", input) {
         return Ok(rest);
     }
-    let rest = consume(b"____Z", input)?;
-    Ok(rest)
+    consume(b"____Z", input)
 }
 
 /// An encoding and the suffixes of clones, behind the word: `<encoding> <clone-suffix>*`.
@@ -145,8 +143,8 @@ fn block_number<'b>(input: IndexStr<'b>) -> Result<(Option<isize>, IndexStr<'b>)
     }
 }
 
-/// What runs the constructors or destructors of a file's variables, with the name that the file is known by. An
-/// addition of compilers.
+/// The function that runs the constructors or destructors of a file's variables, with the name that the file is known
+/// by. An addition of compilers.
 ///
 /// ```text
 /// <global-ctor-dtor> ::= <_ | . | $> I _ <mangled-name> | <_ | . | $> D _ <mangled-name>

@@ -11,7 +11,7 @@ ghost use Rattle.demangle_forms.specs.Starts.{local_names_at, names_at, template
 ghost use Rattle.demangle_forms.specs.Starts.{template_references_at};
 ghost use Rattle.demangle_answers.specs.Reads.{Reads, ReadsRow};
 
-use crate::first_bytes::{NameStart, is_reference, name_start};
+use crate::first_bytes::{NameStart, is_substitution, name_start};
 use crate::local_names::local_name;
 use crate::nested_names::nested_name;
 use demangle_answers::{add_template_name, next_is, passed, restored};
@@ -48,7 +48,7 @@ pub fn name_by<'b, B: Below>(
     name_alternatives(below, alloc, depth, subs, input)
 }
 
-/// The alternatives of a name, behind its level, from the first one on that the next bytes leave.
+/// The alternatives of a name, in the level that it entered, from the first one on that must be tried.
 #[tactic(auto)]
 fn name_alternatives<'b, B: Below>(
     below: B,
@@ -63,15 +63,15 @@ fn name_alternatives<'b, B: Below>(
         (names_at (cread depth.levels) depth.conversion (here (spot input.entry) (table_of subs.old))) }
 {
     match name_start(depth, input) {
-        NameStart::All => any_name(below, alloc, depth, subs, input),
+        NameStart::All => nested_or_unscoped(below, alloc, depth, subs, input),
         NameStart::Templates => template_or_local(below, alloc, depth, subs, input),
         NameStart::Locals => local_alone(below, alloc, depth, subs, input),
     }
 }
 
-/// All alternatives: nested names, unscoped names, and what comes after these.
+/// All alternatives: nested names, unscoped names, and those after them.
 #[tactic(auto, using(demangle_nodes::proofs::Parts::parts_name, demangle_forms::proofs::Lasting::lasting), unfolding(demangle_forms::specs::Starts::names_at))]
-fn any_name<'b, B: Below>(
+fn nested_or_unscoped<'b, B: Below>(
     below: B,
     alloc: Global,
     depth: Depth,
@@ -99,7 +99,7 @@ fn any_name<'b, B: Below>(
     template_or_local(below, alloc, depth, subs, input)
 }
 
-/// Names of templates with their arguments, and local names.
+/// Templates with their arguments, and local names.
 #[tactic(auto, using(demangle_nodes::proofs::Parts::parts_name, demangle_forms::proofs::Lasting::lasting), unfolding(demangle_forms::specs::Starts::template_names_at))]
 fn template_or_local<'b, B: Below>(
     below: B,
@@ -141,7 +141,7 @@ fn local_alone<'b, B: Below>(
     Ok((Name::Local(local), rest))
 }
 
-/// A name of the global scope or of `std`. ABI section 5.1.2.
+/// A name in the global scope or in `std`. ABI section 5.1.2.
 ///
 /// ```text
 /// <unscoped-name> ::= <unqualified-name> | St <unqualified-name>
@@ -168,7 +168,7 @@ pub fn unscoped_name<'b, B: Below>(
     Ok((UnscopedName::Unqualified(name), rest))
 }
 
-/// The name of a template outside of a nested name, which becomes a component unless it is one. ABI section 5.1.2.
+/// The name of a template outside a nested name. It becomes a component unless it is one already. ABI section 5.1.2.
 ///
 /// ```text
 /// <unscoped-template-name> ::= <unscoped-name> | <substitution>
@@ -187,15 +187,15 @@ pub fn unscoped_template_name_handle<'b, B: Below>(
         depth.levels depth.conversion input.entry result (table_of subs.old) (table_of subs.new) }
 {
     let depth = depth.enter()?;
-    if is_reference(depth, input) {
-        return template_reference(depth, subs, input);
+    if is_substitution(depth, input) {
+        return template_substitution(depth, subs, input);
     }
-    any_template_handle(below, alloc, depth, subs, input)
+    unscoped_or_substitution(below, alloc, depth, subs, input)
 }
 
-/// An unscoped name, which becomes a component, or a reference.
+/// An unscoped name, which becomes a component, or a substitution.
 #[tactic(auto, using(demangle_forms::proofs::Lasting::lasting), unfolding(demangle_forms::specs::Starts::template_handles_at))]
-fn any_template_handle<'b, B: Below>(
+fn unscoped_or_substitution<'b, B: Below>(
     below: B,
     alloc: Global,
     depth: Depth,
@@ -212,12 +212,12 @@ fn any_template_handle<'b, B: Below>(
         let handle = add_template_name(subs, mark, name)?;
         return Ok((handle, rest));
     }
-    template_reference(depth, subs, input)
+    template_substitution(depth, subs, input)
 }
 
-/// A reference to the name of a template.
+/// A substitution that is the name of a template.
 #[tactic(auto, unfolding(demangle_forms::specs::Starts::template_references_at))]
-fn template_reference<'b>(
+fn template_substitution<'b>(
     depth: Depth,
     subs: &SubstitutionTable,
     input: IndexStr<'b>,

@@ -17,8 +17,8 @@ use demangle_text::{IndexStr, Result, consume};
 use std::alloc::Global;
 
 /// A name inside classes or namespaces. It is read as a prefix, whose entry it takes over: the last name, or the
-/// template with its arguments. `H` stands in the qualifiers' place for an explicit object parameter. ABI section
-/// 5.1.2.
+/// template with its arguments. `H` stands in place of the qualifiers for an explicit object parameter. ABI
+/// section 5.1.2.
 ///
 /// ```text
 /// <nested-name> ::= N [<CV-qualifiers>] [<ref-qualifier>] <prefix> <unqualified-name> E

@@ -1,5 +1,5 @@
-//! Prefixes of nested names, ABI section 5.1.2: a first turn, and turns behind it until one takes no byte. Each turn
-//! counts a level of its own.
+//! Prefixes of nested names, ABI section 5.1.2: a first turn, and turns behind it until one reads no byte. Each turn
+//! enters a level of its own.
 
 ghost use Rattle.std.specs.Prelude.{◌≡◌, ◌≤◌, ◌<◌, [], ◌∷◌};
 ghost use Rattle.demangle_text.specs.Spot.{spot};

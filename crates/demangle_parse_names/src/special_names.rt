@@ -1,4 +1,4 @@
-//! What compilers make beside functions and variables, ABI section 5.1.4.
+//! What compilers make besides functions and variables, ABI section 5.1.4.
 
 ghost use Rattle.std.specs.Prelude.{◌≡◌, ◌≤◌, ◌<◌, [], ◌∷◌};
 ghost use Rattle.demangle_text.specs.Spot.{spot};
@@ -23,8 +23,8 @@ use demangle_table::SubstitutionTable;
 use demangle_text::{Error, IndexStr, Result, consume, parse_unsigned};
 use std::alloc::Global;
 
-/// What the compiler makes beside functions and variables. ABI section 5.1.4; Java's resources and functions for type
-/// information, of old compilers, are additions of compilers.
+/// What the compiler makes besides functions and variables. ABI section 5.1.4; Java's resources, and the functions for
+/// type information of old compilers, are additions of compilers.
 ///
 /// ```text
 /// <special-name> ::= TV <type> | TT <type> | TI <type> | TS <type> | TF <type>
@@ -33,7 +33,7 @@ use std::alloc::Global;
 ///                ::= TH <name> | TW <name> | GV <object name>
 ///                ::= GR <object name> _ | GR <object name> <seq-id> _
 ///                ::= Gr <length number> _ <resource-name>*
-///                ::= GTt <encoding> | GTn <encoding>
+///                ::= GTn <encoding> | GT <any byte but n> <encoding>
 /// ```
 #[tactic(auto, using(demangle_forms::proofs::SpecialLaws::special_name_row_is, demangle_nodes::proofs::Parts::parts_special_name, demangle_forms::proofs::Lasting::lasting), unfolding(demangle_forms::specs::SpecialForms::special_name_row))]
 pub fn special_name<'b, B: Below>(
@@ -56,12 +56,12 @@ pub fn special_name<'b, B: Below>(
         let (ty, rest) = below.type_handle(alloc, depth, subs, rest)?;
         return Ok((table.of(ty), rest));
     }
-    thunk_or_other(below, alloc, depth, subs, input)
+    thunk_or_vtable(below, alloc, depth, subs, input)
 }
 
-/// Thunks, construction tables, and the alternatives behind them.
+/// Thunks, construction tables, and the alternatives after them.
 #[tactic(auto, using(demangle_forms::proofs::Lasting::lasting), unfolding(demangle_forms::specs::SpecialForms::thunks_at))]
-fn thunk_or_other<'b, B: Below>(
+fn thunk_or_vtable<'b, B: Below>(
     below: B,
     alloc: Global,
     depth: Depth,
@@ -82,12 +82,12 @@ fn thunk_or_other<'b, B: Below>(
     if let Ok(rest) = consume(b"TC", input) {
         return construction_vtable(below, alloc, depth, subs, rest);
     }
-    of_name_or_other(below, alloc, depth, subs, input)
+    of_name_or_addition(below, alloc, depth, subs, input)
 }
 
-/// What is made for a name, and the alternatives behind it.
+/// What is made for a name, and the alternatives after it.
 #[tactic(auto, using(demangle_nodes::proofs::Parts::parts_special_name, demangle_forms::proofs::Lasting::lasting), unfolding(demangle_forms::specs::SpecialForms::of_names_at))]
-fn of_name_or_other<'b, B: Below>(
+fn of_name_or_addition<'b, B: Below>(
     below: B,
     alloc: Global,
     depth: Depth,
@@ -222,7 +222,7 @@ fn guard_temporary<'b, B: Below>(
     Ok((SpecialName::GuardTemporary(name, number + 1), rest))
 }
 
-/// A copy of a function for transactions, behind `GT`: `n <encoding>`, or another byte for `t` before the encoding.
+/// A copy of a function for transactions, behind `GT`: `n <encoding> | <any byte but n> <encoding>`.
 #[tactic(auto, using(demangle_nodes::proofs::Parts::parts_special_name, demangle_forms::proofs::Lasting::lasting), unfolding(demangle_forms::specs::SpecialForms::transaction_clone_at))]
 fn transaction_clone<'b, B: Below>(
     below: B,

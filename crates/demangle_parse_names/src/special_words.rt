@@ -1,4 +1,4 @@
-//! The words of special names, ABI section 5.1.4, and single bytes of names that compilers make.
+//! The words of special names, ABI section 5.1.4, and single bytes in names that compilers make.
 
 ghost use Rattle.std.specs.Prelude.{◌≡◌};
 ghost use Rattle.demangle_text.specs.Kind.{Gives};
@@ -16,7 +16,7 @@ use demangle_entries::{Name, SpecialName, TypeHandle};
 use demangle_text::{Error, IndexStr, Result, consume};
 
 /// What is made for a type.
-#[derive(Clone, Copy, Debug)]
+#[derive(Clone, Copy)]
 pub enum TableWord {
     /// `TV`
     VirtualTable,
@@ -46,29 +46,25 @@ impl TableWord {
     }
 }
 
-/// The word at the front, and the rest. Where none of the five is there, the refusal is that of the last.
-#[tactic(auto, unfolding(demangle_forms::specs::SpecialForms::table_word_at))]
+/// The word at the front, and the rest. Where none of the five is there, the refusal is that of the last, `TF`.
+#[tactic(auto, unfolding(demangle_forms::specs::SpecialForms::table_word_at, demangle_text::specs::Word::word_at))]
 pub fn table_word<'b>(input: IndexStr<'b>) -> Result<(TableWord, IndexStr<'b>)>
     ensures { Gives (λ x. (tag_of_table_word x.0, spot x.1)) result (table_word_at (spot input.entry)) }
 {
-    if let Ok(rest) = consume(b"TV", input) {
-        return Ok((TableWord::VirtualTable, rest));
+    match input.as_slice() {
+        [b'T', b'V', ..] => Ok((TableWord::VirtualTable, input.range_from(2..))),
+        [b'T', b'T', ..] => Ok((TableWord::Vtt, input.range_from(2..))),
+        [b'T', b'I', ..] => Ok((TableWord::Typeinfo, input.range_from(2..))),
+        [b'T', b'S', ..] => Ok((TableWord::TypeinfoName, input.range_from(2..))),
+        _ => {
+            let rest = consume(b"TF", input)?;
+            Ok((TableWord::TypeinfoFunction, rest))
+        }
     }
-    if let Ok(rest) = consume(b"TT", input) {
-        return Ok((TableWord::Vtt, rest));
-    }
-    if let Ok(rest) = consume(b"TI", input) {
-        return Ok((TableWord::Typeinfo, rest));
-    }
-    if let Ok(rest) = consume(b"TS", input) {
-        return Ok((TableWord::TypeinfoName, rest));
-    }
-    let rest = consume(b"TF", input)?;
-    Ok((TableWord::TypeinfoFunction, rest))
 }
 
 /// What is made for a name.
-#[derive(Clone, Copy, Debug)]
+#[derive(Clone, Copy)]
 pub enum NameWord {
     /// `TH`
     TlsInit,
@@ -92,19 +88,19 @@ impl NameWord {
     }
 }
 
-/// The word at the front, and the rest. Where none of the three is there, the refusal is that of the last.
-#[tactic(auto, unfolding(demangle_forms::specs::SpecialForms::name_word_at))]
+/// The word at the front, and the rest. Where none of the three is there, the refusal is that of the last, `GV`.
+#[tactic(auto, unfolding(demangle_forms::specs::SpecialForms::name_word_at, demangle_text::specs::Word::word_at))]
 pub fn name_word<'b>(input: IndexStr<'b>) -> Result<(NameWord, IndexStr<'b>)>
     ensures { Gives (λ x. (tag_of_name_word x.0, spot x.1)) result (name_word_at (spot input.entry)) }
 {
-    if let Ok(rest) = consume(b"TH", input) {
-        return Ok((NameWord::TlsInit, rest));
+    match input.as_slice() {
+        [b'T', b'H', ..] => Ok((NameWord::TlsInit, input.range_from(2..))),
+        [b'T', b'W', ..] => Ok((NameWord::TlsWrapper, input.range_from(2..))),
+        _ => {
+            let rest = consume(b"GV", input)?;
+            Ok((NameWord::Guard, rest))
+        }
     }
-    if let Ok(rest) = consume(b"TW", input) {
-        return Ok((NameWord::TlsWrapper, rest));
-    }
-    let rest = consume(b"GV", input)?;
-    Ok((NameWord::Guard, rest))
 }
 
 /// The rest behind the first byte, whatever that is.

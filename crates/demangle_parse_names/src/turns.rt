@@ -1,4 +1,4 @@
-//! The turns of a prefix, ABI section 5.1.2, <prefix>. What a turn makes stands in the place of the prefix so far.
+//! The turns of a prefix, ABI section 5.1.2, <prefix>. What a turn makes takes the place of the prefix so far.
 
 ghost use Rattle.std.specs.Prelude.{◌≡◌, ◌≤◌, ◌<◌, [], ◌∷◌};
 ghost use Rattle.demangle_text.specs.Spot.{spot};
@@ -81,7 +81,7 @@ fn first_decltype<'b, B: Below>(
     Ok((handle, rest))
 }
 
-/// A name as the first turn. An `M` behind it, which makes it that of a data member, is read and not kept.
+/// A name as the first turn. An `M` behind it, which makes it the name of a data member, is read and not kept.
 #[tactic(auto, using(demangle_forms::proofs::Lasting::lasting), unfolding(demangle_forms::specs::NameForms::first_name_at))]
 fn first_name<'b, B: Below>(
     below: B,
@@ -102,7 +102,7 @@ fn first_name<'b, B: Below>(
     Ok((handle, rest))
 }
 
-/// A turn behind the prefix so far; it takes no byte where none begins.
+/// A turn behind the prefix so far. Where none begins, no byte is read, and the prefix stays.
 ///
 /// ```text
 /// <prefix> ::= <prefix> <unqualified-name> | <template-prefix> <template-args> | <prefix> <data-member-prefix>
@@ -146,7 +146,7 @@ pub fn prefix_turn<'b, B: Below>(
     }
 }
 
-/// `decltype` in the prefix's place, or the name of a destructor behind it.
+/// `decltype` in place of the prefix, or the name of a destructor behind the prefix.
 #[tactic(auto, using(demangle_forms::proofs::Lasting::lasting), unfolding(demangle_forms::specs::NameForms::turn_decltype_at))]
 fn turn_decltype<'b, B: Below>(
     below: B,
@@ -172,7 +172,7 @@ fn turn_decltype<'b, B: Below>(
     Ok((handle, rest))
 }
 
-/// A name behind the prefix; with an `M` behind it that of a data member, which is kept without its tags.
+/// A name behind the prefix. With an `M` behind it, it is the name of a data member, and is kept without its tags.
 #[tactic(auto, using(demangle_forms::proofs::Lasting::lasting), unfolding(demangle_forms::specs::NameForms::turn_name_at))]
 fn turn_name<'b, B: Below>(
     below: B,

@@ -1,5 +1,4 @@
-//! With which alternatives the next bytes leave a name without its scope: those before can't begin with them, and
-//! needn't be tried.
+//! From which alternative on a name without its scope must be tried, by the next bytes.
 
 ghost use Rattle.std.specs.Prelude.{◌≡◌, true, ◌∷◌};
 ghost use Rattle.demangle_text.specs.Spot.{spot};
@@ -11,24 +10,24 @@ ghost use Rattle.demangle_parse_unqualified.specs.UnqualifiedStarts.{form_of_sta
 use demangle_leaf_rows::Depth;
 use demangle_text::IndexStr;
 
-/// How many levels an alternative goes deep, at the most, that can't begin with the next byte.
+/// The most levels that a skipped alternative enters before it fails.
 const SHALLOW: u32 = 2;
 
-/// With which alternative a name without its scope is begun.
+/// From which alternative on a name without its scope is tried.
 #[derive(Clone, Copy)]
 pub enum UnqualifiedStart {
-    /// The first one, an operator.
+    /// Operators, the first alternative.
     All,
     /// Constructors and destructors: `C` or `D`.
     Constructors,
-    /// Names of the source: a digit or `L`.
+    /// Source names: a digit or `L`.
     Sources,
     /// Closures and unnamed types, the last alternatives; a byte with which no name begins is refused there.
     Unnamed,
 }
 
-/// Where the name begins. Close to the limit of levels that is always the first alternative, since one that is only
-/// tried may reach the limit.
+/// From which alternative on the name is tried. Close to the limit of levels it is always the first, since trying an
+/// alternative may already reach the limit.
 #[tactic(auto, using(demangle_forms::proofs::UnqualifiedStarts::unqualified_starts))]
 pub fn unqualified_start<'b>(depth: Depth, input: IndexStr<'b>) -> UnqualifiedStart
     ensures { (table : Table)
@@ -42,7 +41,7 @@ pub fn unqualified_start<'b>(depth: Depth, input: IndexStr<'b>) -> UnqualifiedSt
     start_of(input)
 }
 
-/// Where the next bytes leave a name.
+/// An alternative before which none can begin with the next bytes.
 fn start_of<'b>(input: IndexStr<'b>) -> UnqualifiedStart
     ensures { leaves_unqualified (form_of_start result) (spot input.entry).left ≡ true }
 {

@@ -1,7 +1,7 @@
-//! The rows of names without their scopes (ABI sections 5.1.2, 5.1.3, 5.1.4.3 and 5.1.8), over the rows that they lead
-//! back to.
+//! The rows of names without their scopes (ABI sections 5.1.2, 5.1.3, 5.1.4.3 and 5.1.8), over the rows to which they
+//! lead back.
 //!
-//! A function a row, or a part of one. What a row reads again at fewer levels it calls through `below`.
+//! Each function reads a row or a part of one. What is read again with fewer levels left is called through `below`.
 #![tactic(auto)]
 
 mod closures;

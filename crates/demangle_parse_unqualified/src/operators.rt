@@ -21,7 +21,7 @@ use demangle_text::{Error, IndexStr, Result, consume};
 use demangle_vocab::SimpleOperatorName;
 use std::alloc::Global;
 
-/// The name of an operator. The type of a conversion operator is read under the conversion flag. ABI section 5.1.3.
+/// The name of an operator. The type of a conversion operator is read with the conversion flag set. ABI section 5.1.3.
 ///
 /// ```text
 /// <operator-name> ::= nw | na | dl | ..   # a word of the table
@@ -96,7 +96,7 @@ pub fn ctor_dtor_name<'b, B: Below>(
     Ok((destructor.name(), rest))
 }
 
-/// A constructor that is inherited from a type, behind `CI`.
+/// A constructor that is inherited from a base class, behind `CI`.
 #[tactic(auto, using(demangle_forms::proofs::Lasting::lasting), unfolding(demangle_forms::specs::UnqualifiedForms::inherited_at))]
 fn inherited_constructor<'b, B: Below>(
     below: B,

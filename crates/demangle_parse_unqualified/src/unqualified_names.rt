@@ -49,7 +49,7 @@ pub fn unqualified_name<'b, B: Below>(
     unqualified_alternatives(below, alloc, depth, subs, input)
 }
 
-/// The alternatives of a name, behind its level, from the first one on that the next bytes leave.
+/// The alternatives of a name, in the level that it entered, from the first one on that must be tried.
 #[inline(always)]
 #[tactic(auto)]
 fn unqualified_alternatives<'b, B: Below>(
@@ -65,16 +65,16 @@ fn unqualified_alternatives<'b, B: Below>(
         (unqualified_names_at (cread depth.levels) depth.conversion (here (spot input.entry) (table_of subs.old))) }
 {
     match unqualified_start(depth, input) {
-        UnqualifiedStart::All => any_unqualified(below, alloc, depth, subs, input),
-        UnqualifiedStart::Constructors => no_operator(below, alloc, depth, subs, input),
+        UnqualifiedStart::All => operator_or_constructor(below, alloc, depth, subs, input),
+        UnqualifiedStart::Constructors => constructor_or_source(below, alloc, depth, subs, input),
         UnqualifiedStart::Sources => source_or_unnamed(below, alloc, depth, subs, input),
-        UnqualifiedStart::Unnamed => no_source_name(below, alloc, depth, subs, input),
+        UnqualifiedStart::Unnamed => closure_or_unnamed(below, alloc, depth, subs, input),
     }
 }
 
-/// All alternatives: operators, and what comes after these.
+/// All alternatives: operators, and those after them.
 #[tactic(auto, using(demangle_forms::proofs::Lasting::lasting), unfolding(demangle_forms::specs::Starts::unqualified_names_at))]
-fn any_unqualified<'b, B: Below>(
+fn operator_or_constructor<'b, B: Below>(
     below: B,
     alloc: Global,
     depth: Depth,
@@ -93,12 +93,12 @@ fn any_unqualified<'b, B: Below>(
         let (tags, rest) = restored(subs, mark, answer)?;
         return Ok((UnqualifiedName::Operator(operator, tags), rest));
     }
-    no_operator(below, alloc, depth, subs, input)
+    constructor_or_source(below, alloc, depth, subs, input)
 }
 
-/// Constructors and destructors, and what comes after these.
+/// Constructors and destructors, and the alternatives after them.
 #[tactic(auto, using(demangle_forms::proofs::UnqualifiedLaws::unqualified_rest_is, demangle_forms::proofs::Lasting::lasting), unfolding(demangle_forms::specs::UnqualifiedForms::unqualified_alternatives, demangle_forms::specs::Starts::source_names_at))]
-fn no_operator<'b, B: Below>(
+fn constructor_or_source<'b, B: Below>(
     below: B,
     alloc: Global,
     depth: Depth,
@@ -119,7 +119,7 @@ fn no_operator<'b, B: Below>(
     source_or_unnamed(below, alloc, depth, subs, input)
 }
 
-/// Names of the source, with `L` before those of internal linkage, and what has none.
+/// Source names, with `L` before those of internal linkage, and closures and unnamed types.
 #[inline(always)]
 #[tactic(auto, using(demangle_forms::proofs::Lasting::lasting), unfolding(demangle_forms::specs::Starts::source_names_at))]
 fn source_or_unnamed<'b, B: Below>(
@@ -147,12 +147,12 @@ fn source_or_unnamed<'b, B: Below>(
         let (tags, rest) = abi_tags(alloc, depth, rest)?;
         return Ok((UnqualifiedName::Source(name, tags), rest));
     }
-    no_source_name(below, alloc, depth, subs, input)
+    closure_or_unnamed(below, alloc, depth, subs, input)
 }
 
 /// A closure or an unnamed type.
 #[tactic(auto, using(demangle_forms::proofs::Lasting::lasting), unfolding(demangle_forms::specs::UnqualifiedForms::unnamed_at))]
-fn no_source_name<'b, B: Below>(
+fn closure_or_unnamed<'b, B: Below>(
     below: B,
     alloc: Global,
     depth: Depth,
