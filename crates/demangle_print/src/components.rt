@@ -16,7 +16,7 @@ use demangle_print_types::type_node_steps;
 use demangle_scope::{ArgScopeStack, DemangleContext, DemangleWrite};
 use demangle_tree::{Substitutable, TemplateTemplateParam, UnresolvedType};
 
-/// What a component holds, behind its level.
+/// What a component holds, its level entered.
 pub(crate) fn substitutable_steps<'subs, W: DemangleWrite, B: Below<'subs, W>>(
     below: B,
     node: &'subs Substitutable,
@@ -58,7 +58,7 @@ pub(crate) fn template_template_param<'subs, W: DemangleWrite, B: Below<'subs, W
     template_template_param_steps(below, node, scope, ctx);
 }
 
-/// The type of a name that is not resolved.
+/// The type of an unresolved name.
 pub(crate) fn unresolved_type<'subs, W: DemangleWrite, B: Below<'subs, W>>(
     below: B,
     node: &'subs UnresolvedType,

@@ -51,7 +51,7 @@ pub trait DemangleAsInner<'subs, W: 'subs + DemangleWrite>: Demangle<'subs, W> {
 
     ghost is_qualified_type: { Self → Bool };
 
-    /// What of the node stands behind. Errors as those of `demangle`.
+    /// What of the node stands behind. The errors are those of `demangle`.
     fn demangle_as_inner<'prev>(
         &'subs self,
         ctx: &mut DemangleContext<'subs, '_, W>,
@@ -60,7 +60,7 @@ pub trait DemangleAsInner<'subs, W: 'subs + DemangleWrite>: Demangle<'subs, W> {
         ensures { DemangledInner (page W.seen ctx.old) (page W.seen ctx.new) (Self.tree self.now)
             (scope_of scope.entry) result };
 
-    /// The type, where it is one of `TypeNode`.
+    /// The node as a `TypeNode`, where it is one.
     fn downcast_to_type(&self) -> Option<&TypeNode>
         ensures { option_map (λ x. x.now) result ≡ as_type self.now };
 
@@ -85,13 +85,13 @@ pub trait DemangleAsInner<'subs, W: 'subs + DemangleWrite>: Demangle<'subs, W> {
 pub trait DemangleAsLeaf<'subs, W: 'subs + DemangleWrite> {
     ghost leaf_tree: { Self → Core };
 
-    /// The leaf name. Errors as those of `Demangle::demangle`.
+    /// The leaf name. The errors are those of `Demangle::demangle`.
     fn demangle_as_leaf(&self, ctx: &mut DemangleContext<'subs, '_, W>) -> Result<(), DemangleError>
         ensures { DemangledLeaf (page W.seen ctx.old) (page W.seen ctx.new) (leaf_tree self.now) result };
 }
 
-/// The parameters of a function, in parentheses, and what waits before them. Errors as those of `Demangle::demangle`.
-/// The original's trait `FunctionArgListAndReturnType` and its kin.
+/// The parameters of a function, in parentheses, and what waits before them. The errors are those of
+/// `Demangle::demangle`. The original's trait `FunctionArgListAndReturnType` and its kin.
 pub fn demangle_args<'prev, 'subs, W: 'subs + DemangleWrite>(
     types: &'subs [TypeHandle],
     ctx: &mut DemangleContext<'subs, '_, W>,
@@ -105,7 +105,7 @@ pub fn demangle_args<'prev, 'subs, W: 'subs + DemangleWrite>(
     ctx.answer()
 }
 
-/// What of an item stands behind. Errors as those of `Demangle::demangle`.
+/// What of an item stands behind. The errors are those of `Demangle::demangle`.
 pub fn demangle_inner<'prev, 'subs, W: 'subs + DemangleWrite>(
     item: InnerItem<'subs>,
     ctx: &mut DemangleContext<'subs, '_, W>,

@@ -19,12 +19,13 @@ pub(crate) struct Printer<'subs> {
     depth: Depth<'subs>,
 }
 
-/// Printing begins where a context is, and an earlier trouble is forgotten.
+/// Begins to print at the level of a context, and forgets an earlier trouble.
 pub(crate) fn begin<'subs, W: DemangleWrite>(
     ctx: &mut DemangleContext<'subs, '_, W>,
 ) -> Printer<'subs>
     ensures { Begun (page W.seen ctx.old) (page W.seen ctx.new) (place_of result.depth) }
 {
+    // For the contract: the law on declarators, and that a level is left.
     prints_declared();
     ctx.start();
     let _level = ctx.recursion_level();

@@ -40,7 +40,7 @@ pub fn function_param<'subs, W: DemangleWrite, B: Below<'subs, W>>(
     }
 }
 
-/// A template parameter that is a template, behind its level.
+/// A template template parameter, its level entered.
 pub fn template_template_param_steps<'subs, W: DemangleWrite, B: Below<'subs, W>>(
     below: B,
     node: &'subs TemplateTemplateParam,
@@ -55,7 +55,7 @@ pub fn template_template_param_steps<'subs, W: DemangleWrite, B: Below<'subs, W>
 }
 
 /// Template arguments, with commas between.
-pub fn template_arg_list<'subs, W: DemangleWrite, B: Below<'subs, W>>(
+pub(crate) fn template_arg_list<'subs, W: DemangleWrite, B: Below<'subs, W>>(
     below: B,
     nodes: &'subs [TemplateArg],
     scope: Option<ArgScopeStack<'_, 'subs>>,
@@ -75,7 +75,7 @@ pub fn template_arg_list<'subs, W: DemangleWrite, B: Below<'subs, W>>(
     }
 }
 
-/// A template argument, behind its level.
+/// A template argument, its level entered.
 pub fn template_arg_steps<'subs, W: DemangleWrite, B: Below<'subs, W>>(
     below: B,
     node: &'subs TemplateArg,

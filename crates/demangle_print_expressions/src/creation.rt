@@ -18,7 +18,7 @@ use demangle_print_parts::{expression_list, type_handle};
 use demangle_scope::{ArgScopeStack, DemangleContext, DemangleWrite};
 use demangle_tree::{Expression, Initializer, TypeHandle};
 
-/// An initializer, where it is there.
+/// An initializer, where there is one.
 fn optional_initializer<'subs, W: DemangleWrite, B: Below<'subs, W>>(
     below: B,
     node: &'subs Option<Initializer>,
@@ -34,7 +34,7 @@ fn optional_initializer<'subs, W: DemangleWrite, B: Below<'subs, W>>(
     }
 }
 
-/// `new (g) int(1)`, of the word that opens it.
+/// `new (g) int(1)`, with the word that opens it, as `new (`.
 pub(crate) fn creation<'subs, W: DemangleWrite, B: Below<'subs, W>>(
     below: B,
     word: &str,
@@ -57,7 +57,7 @@ pub(crate) fn creation<'subs, W: DemangleWrite, B: Below<'subs, W>>(
     optional_initializer(below, node, scope, ctx);
 }
 
-/// The same behind `::`.
+/// `::new (g) int(1)`, with the word behind `::`.
 pub(crate) fn global_creation<'subs, W: DemangleWrite, B: Below<'subs, W>>(
     below: B,
     word: &str,
@@ -77,7 +77,7 @@ pub(crate) fn global_creation<'subs, W: DemangleWrite, B: Below<'subs, W>>(
     creation(below, word, placement, handle, node, scope, ctx);
 }
 
-/// `::delete g`, of the word behind `::`.
+/// `::delete g`, with the word behind `::`.
 pub(crate) fn global_led<'subs, W: DemangleWrite, B: Below<'subs, W>>(
     below: B,
     word: &str,

@@ -20,7 +20,7 @@ use demangle_print_parts::template_param;
 use demangle_scope::{ArgScopeStack, DemangleContext, DemangleWrite};
 use demangle_tree::Expression;
 
-/// An expression, behind its level.
+/// An expression, its level entered.
 pub fn expression_steps<'subs, W: DemangleWrite, B: Below<'subs, W>>(
     below: B,
     node: &'subs Expression,
@@ -32,14 +32,18 @@ pub fn expression_steps<'subs, W: DemangleWrite, B: Below<'subs, W>>(
         (scope_of scope.entry) }
 {
     match node {
-        Expression::Unary(o, a) => unary(below, o, a, scope, ctx),
-        Expression::Binary(o, a, b) => binary(below, o, a, b, scope, ctx),
-        Expression::Ternary(o, a, b, c) => ternary(below, o, a, b, c, scope, ctx),
-        Expression::PrefixInc(a) => led(below, "++", a, scope, ctx),
-        Expression::PrefixDec(a) => led(below, "--", a, scope, ctx),
+        Expression::Unary(operator, operand) => unary(below, operator, operand, scope, ctx),
+        Expression::Binary(operator, left, right) => {
+            binary(below, operator, left, right, scope, ctx);
+        }
+        Expression::Ternary(operator, first, second, third) => {
+            ternary(below, operator, first, second, third, scope, ctx);
+        }
+        Expression::PrefixInc(operand) => led(below, "++", operand, scope, ctx),
+        Expression::PrefixDec(operand) => led(below, "--", operand, scope, ctx),
         Expression::Fold(fold) => fold_expr(below, fold, scope, ctx),
         Expression::Call(callee, args) => call(below, callee, args.as_slice(), scope, ctx),
-        Expression::ConversionOne(ty, a) => conversion_one(below, ty, a, scope, ctx),
+        Expression::ConversionOne(ty, operand) => conversion_one(below, ty, operand, scope, ctx),
         Expression::ConversionMany(ty, list) => {
             conversion_many(below, ty, list.as_slice(), scope, ctx);
         }
@@ -47,10 +51,14 @@ pub fn expression_steps<'subs, W: DemangleWrite, B: Below<'subs, W>>(
             conversion_braced(below, ty, list.as_slice(), scope, ctx);
         }
         Expression::BracedInitList(list) => braced_init_list(below, list.as_slice(), scope, ctx),
-        Expression::DynamicCast(ty, a) => cast(below, "dynamic_cast<", ty, a, scope, ctx),
-        Expression::StaticCast(ty, a) => cast(below, "static_cast<", ty, a, scope, ctx),
-        Expression::ConstCast(ty, a) => cast(below, "const_cast<", ty, a, scope, ctx),
-        Expression::ReinterpretCast(ty, a) => cast(below, "reinterpret_cast<", ty, a, scope, ctx),
+        Expression::DynamicCast(ty, operand) => {
+            cast(below, "dynamic_cast<", ty, operand, scope, ctx);
+        }
+        Expression::StaticCast(ty, operand) => cast(below, "static_cast<", ty, operand, scope, ctx),
+        Expression::ConstCast(ty, operand) => cast(below, "const_cast<", ty, operand, scope, ctx),
+        Expression::ReinterpretCast(ty, operand) => {
+            cast(below, "reinterpret_cast<", ty, operand, scope, ctx);
+        }
         Expression::New(list, ty, init) => {
             creation(below, "new (", list.as_slice(), ty, init, scope, ctx);
         }
@@ -63,30 +71,34 @@ pub fn expression_steps<'subs, W: DemangleWrite, B: Below<'subs, W>>(
         Expression::GlobalNewArray(list, ty, init) => {
             global_creation(below, "new[] (", list.as_slice(), ty, init, scope, ctx);
         }
-        Expression::Delete(a) => led(below, "delete ", a, scope, ctx),
-        Expression::DeleteArray(a) => led(below, "delete[] ", a, scope, ctx),
-        Expression::GlobalDelete(a) => global_led(below, "delete ", a, scope, ctx),
-        Expression::GlobalDeleteArray(a) => global_led(below, "delete[] ", a, scope, ctx),
+        Expression::Delete(operand) => led(below, "delete ", operand, scope, ctx),
+        Expression::DeleteArray(operand) => led(below, "delete[] ", operand, scope, ctx),
+        Expression::GlobalDelete(operand) => global_led(below, "delete ", operand, scope, ctx),
+        Expression::GlobalDeleteArray(operand) => {
+            global_led(below, "delete[] ", operand, scope, ctx);
+        }
         Expression::TypeidType(ty) => enclosed_type(below, "typeid (", ty, scope, ctx),
-        Expression::TypeidExpr(a) => enclosed(below, "typeid (", a, scope, ctx),
+        Expression::TypeidExpr(operand) => enclosed(below, "typeid (", operand, scope, ctx),
         Expression::SizeofType(ty) => enclosed_type(below, "sizeof (", ty, scope, ctx),
-        Expression::SizeofExpr(a) => enclosed(below, "sizeof (", a, scope, ctx),
+        Expression::SizeofExpr(operand) => enclosed(below, "sizeof (", operand, scope, ctx),
         Expression::AlignofType(ty) => enclosed_type(below, "alignof (", ty, scope, ctx),
-        Expression::AlignofExpr(a) => enclosed(below, "alignof (", a, scope, ctx),
-        Expression::Noexcept(a) => enclosed(below, "noexcept (", a, scope, ctx),
+        Expression::AlignofExpr(operand) => enclosed(below, "alignof (", operand, scope, ctx),
+        Expression::Noexcept(operand) => enclosed(below, "noexcept (", operand, scope, ctx),
         Expression::SizeofTemplatePack(param) => sizeof_template_pack(below, param, scope, ctx),
         Expression::SizeofFunctionPack(param) => sizeof_function_pack(below, param, ctx),
         Expression::SizeofCapturedTemplatePack(args) => {
             sizeof_captured_pack(below, args.as_slice(), scope, ctx);
         }
-        Expression::Member(a, name) => member(below, a, name, scope, ctx),
-        Expression::DerefMember(a, name) => deref_member(below, a, name, scope, ctx),
-        Expression::PointerToMember(a, b) => pointer_to_member(below, a, b, scope, ctx),
+        Expression::Member(object, name) => member(below, object, name, scope, ctx),
+        Expression::DerefMember(object, name) => deref_member(below, object, name, scope, ctx),
+        Expression::PointerToMember(left, right) => {
+            pointer_to_member(below, left, right, scope, ctx);
+        }
         Expression::Subobject(part) => subobject_expr(below, part, scope, ctx),
         Expression::TemplateParam(param) => template_param(below, param, scope, ctx),
         Expression::FunctionParam(param) => function_param(below, param, ctx),
-        Expression::PackExpansion(a) => pack_expansion(below, a, scope, ctx),
-        Expression::Throw(a) => led(below, "throw ", a, scope, ctx),
+        Expression::PackExpansion(operand) => pack_expansion(below, operand, scope, ctx),
+        Expression::Throw(operand) => led(below, "throw ", operand, scope, ctx),
         Expression::Rethrow => ctx.text("throw"),
         Expression::UnresolvedName(name) => unresolved_name(below, name, scope, ctx),
         Expression::Primary(primary) => expr_primary(below, primary, scope, ctx),

@@ -15,7 +15,7 @@ use demangle_scope::{ArgScopeStack, DemangleContext, DemangleWrite};
 use demangle_tree::{Expression, FoldExpr};
 use demangle_vocab::SimpleOperatorName;
 
-/// `(g + ... + h)`.
+/// `({parm#1}+...+(0))`.
 fn binary_fold<'subs, W: DemangleWrite, B: Below<'subs, W>>(
     below: B,
     operator: &SimpleOperatorName,
@@ -38,7 +38,7 @@ fn binary_fold<'subs, W: DemangleWrite, B: Below<'subs, W>>(
     ctx.text(")");
 }
 
-/// `(...+g)`, `(g+...)`, `(g+...+h)`.
+/// `(...+(g))`, `((g)+...)`, `((g)+...+(h))`.
 pub fn fold_expr<'subs, W: DemangleWrite, B: Below<'subs, W>>(
     below: B,
     node: &'subs FoldExpr,

@@ -13,9 +13,7 @@ mod shapes;
 mod sizes;
 mod unresolved;
 
-pub use arguments::{
-    function_param, template_arg_list, template_arg_steps, template_template_param_steps,
-};
+pub use arguments::{function_param, template_arg_steps, template_template_param_steps};
 pub use calls::initializer;
 pub use expression::expression_steps;
 pub use folds::fold_expr;

@@ -59,7 +59,7 @@ fn spells(word: &[u8], bytes: &[u8]) -> bool
     word == bytes
 }
 
-/// Whether it is the literal of these bytes, of the type `bool`.
+/// Whether a literal is of the type `bool`, and its bytes are these.
 fn is_truth_value<'subs, W: DemangleWrite, B: Below<'subs, W>>(
     below: B,
     handle: &TypeHandle,
@@ -73,8 +73,8 @@ fn is_truth_value<'subs, W: DemangleWrite, B: Below<'subs, W>>(
     is_type(below, handle, StandardBuiltinType::Bool) && spells(word, bytes)
 }
 
-/// Whether a type has a fraction: `float` and `double`.
-fn is_real<'subs, W: DemangleWrite, B: Below<'subs, W>>(below: B, handle: &TypeHandle) -> bool
+/// Whether a type is a floating-point type: `float` or `double`.
+fn is_floating<'subs, W: DemangleWrite, B: Below<'subs, W>>(below: B, handle: &TypeHandle) -> bool
     ensures { result ≡ (is_just (world_of (B.at below).refers) (tree_of_type_handle handle.now)
         (number_of_builtin StandardBuiltinType.Float)
         || is_just (world_of (B.at below).refers) (tree_of_type_handle handle.now)
@@ -121,7 +121,7 @@ fn digits<'subs, W: DemangleWrite>(bytes: &[u8], ctx: &mut DemangleContext<'subs
     bytes_text(without_sign(bytes), ctx);
 }
 
-/// The sign of a number with a fraction, and the bracket before its bytes.
+/// The sign of a floating-point number, and the bracket before its bytes.
 fn opening<'subs, W: DemangleWrite>(bytes: &[u8], ctx: &mut DemangleContext<'subs, '_, W>)
     ensures { (p : Place) → Meets p (page W.seen ctx.old) (page W.seen ctx.new) (opening bytes.now) }
 {
@@ -182,7 +182,7 @@ fn literal<'subs, W: DemangleWrite, B: Below<'subs, W>>(
         digits(bytes, ctx);
     } else if is_type(below, handle, StandardBuiltinType::Nullptr) {
         ctx.text("nullptr");
-    } else if is_real(below, handle) {
+    } else if is_floating(below, handle) {
         type_first(below, handle, scope, ctx);
         real_bytes(bytes, ctx);
     } else if is_type(below, handle, StandardBuiltinType::Int) {

@@ -20,7 +20,7 @@ use demangle_scope::{ArgScopeStack, DemangleContext, DemangleWrite};
 use demangle_tree::{Expression, OperatorName};
 use demangle_vocab::SimpleOperatorName;
 
-// whether it is just this word
+/// Whether an operator is just this word.
 fn is_operator(operator: &OperatorName, word: SimpleOperatorName) -> bool
     ensures { (r : Refers) → result ≡ is_seen_word 0 (number_of_operator word)
         (see (world_of r) (find (world_of r) (Some (tree_of_operator_name operator.now)) (0 ∷ []))) }
@@ -42,7 +42,7 @@ fn stands_behind(operator: &OperatorName) -> bool
         || is_operator(operator, SimpleOperatorName::PostDec)
 }
 
-/// An operator with one operand: `++` and `--` without the mark of the prefix forms stand behind theirs.
+/// An operator with one operand. `++` and `--` stand behind theirs: the prefix forms are other nodes.
 pub(crate) fn unary<'subs, W: DemangleWrite, B: Below<'subs, W>>(
     below: B,
     operator: &'subs OperatorName,
@@ -64,7 +64,7 @@ pub(crate) fn unary<'subs, W: DemangleWrite, B: Below<'subs, W>>(
     }
 }
 
-/// An operator with two operands: `>` is kept from ending template arguments.
+/// An operator with two operands. Parentheses keep `>` from ending template arguments.
 pub(crate) fn binary<'subs, W: DemangleWrite, B: Below<'subs, W>>(
     below: B,
     operator: &'subs OperatorName,
@@ -92,7 +92,7 @@ pub(crate) fn binary<'subs, W: DemangleWrite, B: Below<'subs, W>>(
     }
 }
 
-/// An operator with three operands: `g?1 : 2`, and any other as a call.
+/// An operator with three operands: `(g)?(1) : (2)`, and any other than `?` as a call.
 pub(crate) fn ternary<'subs, W: DemangleWrite, B: Below<'subs, W>>(
     below: B,
     operator: &'subs OperatorName,

@@ -17,7 +17,7 @@ use demangle_print_parts::type_handle;
 use demangle_scope::{ArgScopeStack, DemangleContext, DemangleWrite};
 use demangle_tree::{ExprPrimary, Expression, TypeHandle};
 
-// whether it is the name of an entity
+/// Whether it is the name of an entity.
 fn is_external(node: &ExprPrimary) -> bool
     ensures { (r : Refers) → result ≡ is_external (tag (world_of r) (tree_of_expr_primary node.now)) }
 {
@@ -27,7 +27,7 @@ fn is_external(node: &ExprPrimary) -> bool
     }
 }
 
-// whether it stands without parentheses as an operand: a parameter of the function, and the name of an entity
+/// Whether an operand stands without parentheses: a parameter of the function does, and the name of an entity.
 fn is_bare(node: &Expression) -> bool
     ensures { (r : Refers) → result ≡ is_bare (world_of r) (Some (tree_of_expression node.now)) }
 {
@@ -38,7 +38,7 @@ fn is_bare(node: &Expression) -> bool
     }
 }
 
-/// An operand, in parentheses where it is no parameter and no name.
+/// An operand, in parentheses unless it is a parameter of the function or the name of an entity.
 pub(crate) fn operand<'subs, W: DemangleWrite, B: Below<'subs, W>>(
     below: B,
     node: &'subs Expression,
@@ -74,7 +74,7 @@ pub(crate) fn led<'subs, W: DemangleWrite, B: Below<'subs, W>>(
     below.expression(node, scope, ctx);
 }
 
-/// A word that opens a parenthesis, an expression, and the parenthesis that closes.
+/// A word that opens a parenthesis, an expression, and the closing parenthesis.
 pub(crate) fn enclosed<'subs, W: DemangleWrite, B: Below<'subs, W>>(
     below: B,
     word: &str,
@@ -91,7 +91,7 @@ pub(crate) fn enclosed<'subs, W: DemangleWrite, B: Below<'subs, W>>(
     ctx.text(")");
 }
 
-/// The same of a type.
+/// A word that opens a parenthesis, a type, and the closing parenthesis.
 pub(crate) fn enclosed_type<'subs, W: DemangleWrite, B: Below<'subs, W>>(
     below: B,
     word: &str,
@@ -108,7 +108,7 @@ pub(crate) fn enclosed_type<'subs, W: DemangleWrite, B: Below<'subs, W>>(
     ctx.text(")");
 }
 
-/// `static_cast<T>(g)`, of the word that opens it.
+/// `static_cast<T>(g)`, with the word that opens it, as `static_cast<`.
 pub(crate) fn cast<'subs, W: DemangleWrite, B: Below<'subs, W>>(
     below: B,
     word: &str,

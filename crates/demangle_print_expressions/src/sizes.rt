@@ -14,7 +14,7 @@ use demangle_print_parts::template_param;
 use demangle_scope::{ArgScopeStack, DemangleContext, DemangleWrite};
 use demangle_tree::{FunctionParam, TemplateArg, TemplateParam};
 
-/// `sizeof...(T)`.
+/// `sizeof...(int, char)`, of the template parameter that stands for these.
 pub(crate) fn sizeof_template_pack<'subs, W: DemangleWrite, B: Below<'subs, W>>(
     below: B,
     node: &TemplateParam,
@@ -45,7 +45,7 @@ pub(crate) fn sizeof_function_pack<'subs, W: DemangleWrite, B: Below<'subs, W>>(
     ctx.text(")");
 }
 
-/// `sizeof...(int, char)`.
+/// `sizeof...(int, char)`, of the arguments themselves.
 pub(crate) fn sizeof_captured_pack<'subs, W: DemangleWrite, B: Below<'subs, W>>(
     below: B,
     nodes: &'subs [TemplateArg],

@@ -199,7 +199,7 @@ fn template_type<'subs, W: DemangleWrite, B: Below<'subs, W>>(
     }
 }
 
-/// The type of an unresolved name, behind its level.
+/// The type of an unresolved name, its level entered.
 pub fn unresolved_type_steps<'subs, W: DemangleWrite, B: Below<'subs, W>>(
     below: B,
     node: &'subs UnresolvedType,

@@ -29,8 +29,8 @@ use demangle_tree::{
     SubstitutionTable,
 };
 
-/// Whether a function has its result: a template has, where results are shown, but constructors, destructors and
-/// conversions.
+/// Whether the result of a function is printed: that of a template is, where results are shown, unless it is a
+/// constructor, a destructor or a conversion.
 fn has_result(name: &Name, subs: &SubstitutionTable, are_shown: bool) -> bool
     ensures { result ≡ (is_some (template_args as_prefix (table_of subs.now) (tree_of_name name.now)) &&
         (are_shown && not (is_special (table_of subs.now) (tree_of_name name.now)))) }
@@ -66,7 +66,7 @@ fn first_type<'subs, W: DemangleWrite, B: Below<'subs, W>>(
     type_handle(below, first, scope, ctx);
 }
 
-/// The result of a function, where it has one.
+/// The result of a function and a space, where the result is printed.
 fn function_result<'subs, W: DemangleWrite, B: Below<'subs, W>>(
     below: B,
     node: &'subs Encoding,
@@ -111,7 +111,7 @@ fn name_and_parameters<'subs, W: DemangleWrite, B: Below<'subs, W>>(
     }
 }
 
-/// What stands in both scopes of a function.
+/// The result, the name and the parameters of a function, in its scope.
 fn in_function<'subs, W: DemangleWrite, B: Below<'subs, W>>(
     below: B,
     node: &'subs Encoding,
@@ -129,7 +129,7 @@ fn in_function<'subs, W: DemangleWrite, B: Below<'subs, W>>(
     name_and_parameters(below, node, name, types, scope, ctx);
 }
 
-/// The same with the template arguments of its name in scope.
+/// The result, the name and the parameters of a function, with the template arguments of its name in scope.
 fn in_leaf_scope<'subs, W: DemangleWrite, B: Below<'subs, W>>(
     below: B,
     node: &'subs Encoding,
@@ -152,7 +152,7 @@ fn in_leaf_scope<'subs, W: DemangleWrite, B: Below<'subs, W>>(
     }
 }
 
-/// The same with its leaf name in scope.
+/// The result, the name and the parameters of a function, with its leaf name and then its template arguments in scope.
 fn with_its_leaf<'subs, W: DemangleWrite, B: Below<'subs, W>>(
     below: B,
     node: &'subs Encoding,

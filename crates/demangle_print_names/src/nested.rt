@@ -27,7 +27,7 @@ use demangle_scope::{ArgScopeStack, DemangleContext, DemangleNodeType, DemangleW
 use demangle_tree::{CvQualifiers, NestedName, PrefixHandle, UnqualifiedName};
 use demangle_vocab::RefQualifier;
 
-/// A prefix and `::`, where it is there.
+/// A prefix and `::`, where there is a prefix.
 fn prefix_before<'subs, W: DemangleWrite, B: Below<'subs, W>>(
     below: B,
     prefix: &'subs Option<PrefixHandle>,
@@ -89,7 +89,7 @@ fn template_path<'subs, W: DemangleWrite, B: Below<'subs, W>>(
     ctx.turn(PrintFlag::NestedPrefix, false);
 }
 
-/// What of the item on top stands behind, where one waits, and then another act.
+/// What of the item on top stands behind, where one waits.
 fn one_waiting<'subs, W: DemangleWrite, B: Below<'subs, W>>(
     below: B,
     scope: Option<ArgScopeStack<'_, 'subs>>,
@@ -104,7 +104,7 @@ fn one_waiting<'subs, W: DemangleWrite, B: Below<'subs, W>>(
     }
 }
 
-/// The qualifiers of a member function, where parameters are shown, and then another act.
+/// The qualifiers of a member function, where parameters are shown.
 fn shown_qualifiers<'subs, W: DemangleWrite, B: Below<'subs, W>>(
     below: B,
     node: &CvQualifiers,
@@ -157,7 +157,7 @@ fn behind_member<'subs, W: DemangleWrite, B: Below<'subs, W>>(
     member_qualifiers(below, qualifiers, reference, ctx);
 }
 
-/// The next parameters have an explicit object; and what of a waiting item stands behind.
+/// Says that the next parameters begin with an explicit object, and prints what of a waiting item stands behind.
 fn behind_object<'subs, W: DemangleWrite, B: Below<'subs, W>>(
     below: B,
     scope: Option<ArgScopeStack<'_, 'subs>>,

@@ -21,7 +21,7 @@ use demangle_print_parts::{decltype, prefix_handle, source_name, template_args, 
 use demangle_scope::{ArgScopeStack, DemangleContext, DemangleNodeType, DemangleWrite, PrintFlag};
 use demangle_tree::{DataMemberPrefix, Prefix};
 
-/// As what a prefix is told. The flag that says so is turned off.
+/// The kind of node as which a prefix is told. The flag that says so is turned off.
 fn prefix_kind<'subs, W: DemangleWrite>(ctx: &mut DemangleContext<'subs, '_, W>) -> DemangleNodeType
     ensures { Opens (page W.seen ctx.old) (page W.seen ctx.new) (kind_of result) }
 {

@@ -21,7 +21,7 @@ use demangle_print_parts::{bytes_between, number, text_of};
 use demangle_scope::{DemangleContext, DemangleWrite, PrintFault, PrintFlag};
 use demangle_tree::{CloneSuffix, CloneTypeIdentifier};
 
-/// Bytes that must be a text, behind a space and a dot, kept as the last source name.
+/// A space, a dot and a word, which must be UTF-8 and is kept as the last source name.
 fn suffix_word<'subs, W: DemangleWrite>(bytes: &'subs [u8], ctx: &mut DemangleContext<'subs, '_, W>)
     ensures { (p : Place) → Meets p (page W.seen ctx.old) (page W.seen ctx.new) (word_act bytes.now) }
 {
@@ -87,7 +87,7 @@ pub fn clone_suffix<'subs, W: DemangleWrite, B: Below<'subs, W>>(
     ctx.text("]");
 }
 
-/// Suffixes of clones, one behind the other.
+/// Suffixes of clones, one after the other.
 fn each_suffix<'subs, W: DemangleWrite, B: Below<'subs, W>>(
     below: B,
     nodes: &[CloneSuffix],
@@ -102,7 +102,7 @@ fn each_suffix<'subs, W: DemangleWrite, B: Below<'subs, W>>(
     }
 }
 
-/// The same behind an encoding, where parameters are shown.
+/// The suffixes of clones behind an encoding, where parameters are shown.
 pub(crate) fn shown_suffixes<'subs, W: DemangleWrite, B: Below<'subs, W>>(
     below: B,
     nodes: &[CloneSuffix],

@@ -41,7 +41,7 @@ pub fn abi_tag<'subs, W: DemangleWrite, B: Below<'subs, W>>(
     ctx.text("]");
 }
 
-/// Tags, one behind the other.
+/// Tags, one after the other.
 fn each_tag<'subs, W: DemangleWrite, B: Below<'subs, W>>(
     below: B,
     nodes: &[AbiTag],

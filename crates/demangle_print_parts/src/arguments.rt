@@ -22,7 +22,7 @@ use demangle_scope::{
 };
 use demangle_tree::{TemplateArgs, TemplateParam};
 
-/// The template argument of a number, of the newest list in scope that has so many.
+/// The template argument of this number, from the newest list in scope that has so many.
 pub fn argument<'subs, W: DemangleWrite, B: Below<'subs, W>>(
     below: B,
     idx: usize,
@@ -77,7 +77,7 @@ pub fn template_param<'subs, W: DemangleWrite, B: Below<'subs, W>>(
     ctx.end_node(told);
 }
 
-/// A space where the last byte is this one, of ASCII, so that no two brackets touch.
+/// A space where the last byte is this bracket, of ASCII, so that no two brackets touch.
 fn apart_from<'subs, W: DemangleWrite>(bracket: char, ctx: &mut DemangleContext<'subs, '_, W>)
     requires { bracket < 128 }
     ensures { (p : Place) (k : Act Core) → Remains p (page W.seen ctx.old) (page W.seen ctx.new)
@@ -88,7 +88,7 @@ fn apart_from<'subs, W: DemangleWrite>(bracket: char, ctx: &mut DemangleContext<
     }
 }
 
-/// Template arguments with commas between, each in the scope in which it is being printed.
+/// Template arguments with commas between. The scope of each says that this one is being printed.
 fn members<'subs, W: DemangleWrite, B: Below<'subs, W>>(
     below: B,
     args: &'subs TemplateArgs,
@@ -110,7 +110,7 @@ fn members<'subs, W: DemangleWrite, B: Below<'subs, W>>(
     }
 }
 
-/// The same, and a space where the last one ends in `>`.
+/// Template arguments with commas between, and a space where the last one ends in `>`.
 fn members_apart<'subs, W: DemangleWrite, B: Below<'subs, W>>(
     below: B,
     args: &'subs TemplateArgs,
@@ -150,7 +150,7 @@ pub fn template_args<'subs, W: DemangleWrite, B: Below<'subs, W>>(
     ctx.unfence(items);
 }
 
-/// Template arguments, where they are there.
+/// Template arguments, where there are any.
 pub fn optional_template_args<'subs, W: DemangleWrite, B: Below<'subs, W>>(
     below: B,
     node: &'subs Option<TemplateArgs>,

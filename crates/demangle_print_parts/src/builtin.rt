@@ -20,7 +20,7 @@ use demangle_print_below::Below;
 use demangle_scope::{ArgScopeStack, DemangleContext, DemangleWrite, InnerItem};
 use demangle_tree::{BuiltinType, CvQualifiers, ParametricBuiltinType, QualifiedBuiltin};
 
-/// A word behind a space, where it is there.
+/// A space and this word, where the qualifier is there.
 fn word_if<'subs, W: DemangleWrite>(
     is_there: bool,
     word: &str,
@@ -35,7 +35,7 @@ fn word_if<'subs, W: DemangleWrite>(
     }
 }
 
-/// Qualifiers, each behind a space, their level entered.
+/// Qualifiers, each with a space before it, their level entered.
 pub fn qualifier_words<'subs, W: DemangleWrite>(
     node: &CvQualifiers,
     ctx: &mut DemangleContext<'subs, '_, W>,
@@ -47,7 +47,7 @@ pub fn qualifier_words<'subs, W: DemangleWrite>(
     word_if(node.restrict, "restrict", ctx);
 }
 
-/// Qualifiers.
+/// `const`, `volatile` and `restrict`, each with a space before it.
 pub fn cv_qualifiers<'subs, W: DemangleWrite, B: Below<'subs, W>>(
     below: B,
     node: &CvQualifiers,

@@ -10,7 +10,7 @@ ghost use Rattle.demangle_print_below.specs.PageOf.{page};
 
 use demangle_scope::{DemangleContext, DemangleWrite, PrintFault};
 
-/// The bytes between two indexes of the input, as far as there are any.
+/// The bytes of the input from one index to another, as far as the input goes.
 pub fn bytes_between(input: &[u8], start: usize, end: usize) -> &[u8]
     ensures { result.now ≡ bytes_of input.now start end }
 {
@@ -25,7 +25,7 @@ pub fn bytes_between(input: &[u8], start: usize, end: usize) -> &[u8]
     &behind[..count]
 }
 
-/// These bytes as a text; `None` where they are none.
+/// These bytes as text; `None` where they aren't UTF-8.
 pub fn text_of(bytes: &[u8]) -> Option<&str>
     ensures { MatchOption result (is_utf8 bytes.now ≡ false)
         (λ text. (text.now ≡ bytes.now) × (is_utf8 bytes.now ≡ true)) }
@@ -36,7 +36,7 @@ pub fn text_of(bytes: &[u8]) -> Option<&str>
     }
 }
 
-/// Bytes that must be a text.
+/// Bytes as text. It is a fault where they aren't UTF-8.
 pub fn bytes_text<'subs, W: DemangleWrite>(bytes: &[u8], ctx: &mut DemangleContext<'subs, '_, W>)
     ensures { (p : Place) → Meets p (page W.seen ctx.old) (page W.seen ctx.new) (input_text bytes.now) }
 {

@@ -12,7 +12,7 @@ use demangle_print_below::Below;
 use demangle_scope::{ArgScopeStack, DemangleContext, DemangleNodeType, DemangleWrite};
 use demangle_tree::{Decltype, Expression};
 
-/// `decltype (x)`, as the listener is told it.
+/// `decltype (x)`, of which the listener is told as a node.
 fn type_of<'subs, W: DemangleWrite, B: Below<'subs, W>>(
     below: B,
     node: &'subs Expression,

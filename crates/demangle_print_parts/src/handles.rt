@@ -18,8 +18,8 @@ use demangle_tree::{
     UnscopedTemplateNameHandle,
 };
 
-/// The component of this number in the first list; nothing where there is none.
-pub fn back_reference<'subs, W: DemangleWrite, B: Below<'subs, W>>(
+/// The component of this number in the list of substitutions; nothing where there is none.
+fn back_reference<'subs, W: DemangleWrite, B: Below<'subs, W>>(
     below: B,
     idx: usize,
     scope: Option<ArgScopeStack<'_, 'subs>>,
@@ -36,7 +36,7 @@ pub fn back_reference<'subs, W: DemangleWrite, B: Below<'subs, W>>(
     }
 }
 
-/// A component of the second list; nothing where it isn't there.
+/// A component of the list of non-substitutions; nothing where it isn't there.
 pub fn non_substitution<'subs, W: DemangleWrite, B: Below<'subs, W>>(
     below: B,
     node: &NonSubstitution,

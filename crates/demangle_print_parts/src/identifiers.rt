@@ -38,7 +38,7 @@ fn is_anonymous(bytes: &[u8]) -> bool
         || begins_with(b"_GLOBAL_$N", bytes)
 }
 
-/// The last source name, written.
+/// Writes a name, and keeps it as the last source name.
 fn write_name<'subs, W: DemangleWrite>(bytes: &'subs [u8], ctx: &mut DemangleContext<'subs, '_, W>)
     ensures { (p : Place) → Meets p (page W.seen ctx.old) (page W.seen ctx.new)
         (named bytes.now (block (input_text bytes.now) done)) }

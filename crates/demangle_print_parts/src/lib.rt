@@ -1,5 +1,5 @@
-//! Lines that lines of every group call: words, numbers, bytes of the input, qualifiers, what of an item stands behind,
-//! lists, and template parameters and arguments.
+//! Lines that the lines of all groups call: words, numbers, bytes of the input, qualifiers, what of an item stands
+//! behind, lists, and template parameters and arguments.
 #![tactic(auto)]
 
 mod arguments;
@@ -23,7 +23,7 @@ pub use builtin::{
 pub use bytes::{bytes_between, bytes_text, text_of};
 pub use decltypes::decltype;
 pub use handles::{
-    back_reference, non_substitution, prefix_handle, template_template_param_handle, type_handle,
+    non_substitution, prefix_handle, template_template_param_handle, type_handle,
     unresolved_type_handle, unscoped_template_name_handle,
 };
 pub use identifiers::{identifier, source_name};

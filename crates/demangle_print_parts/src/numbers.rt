@@ -1,4 +1,4 @@
-//! Ordinals: numbers of which names leave the first out.
+//! Ordinals: names leave out the first number, and count from the second.
 
 ghost use Rattle.std.specs.Prelude.{◌+ℤ◌, pos, Some, ◌∷◌, []};
 ghost use Rattle.std.specs.Fmt.{signed_decimal};
@@ -13,7 +13,7 @@ ghost use Rattle.demangle_print_below.specs.PageOf.{page};
 use demangle_decimal::Decimal;
 use demangle_scope::{DemangleContext, DemangleWrite};
 
-/// A number and so much more, in decimal.
+/// The sum of a number and a constant, in decimal.
 pub fn ordinal<'subs, W: DemangleWrite>(n: usize, plus: u8, ctx: &mut DemangleContext<'subs, '_, W>)
     ensures { Steps (page W.seen ctx.old) (page W.seen ctx.new) (written (signed_decimal (pos n +ℤ pos plus))) }
 {
@@ -21,7 +21,7 @@ pub fn ordinal<'subs, W: DemangleWrite>(n: usize, plus: u8, ctx: &mut DemangleCo
     ctx.text(room.unsigned(n as u128 + plus as u128));
 }
 
-/// An optional number and so much more, in decimal, and `none` where there is no number.
+/// The sum of an optional number and a constant, in decimal, and `none` where there is no number.
 pub fn optional_ordinal<'subs, W: DemangleWrite>(
     n: Option<usize>,
     none: u8,

@@ -76,7 +76,7 @@ fn type_in_its_scope<'subs, W: DemangleWrite, B: Below<'subs, W>>(
     }
 }
 
-/// A conversion to a type, which has no part in what waits outside.
+/// A conversion to a type, apart from the items that wait outside.
 fn conversion<'subs, W: DemangleWrite, B: Below<'subs, W>>(
     below: B,
     handle: &'subs TypeHandle,
@@ -93,7 +93,7 @@ fn conversion<'subs, W: DemangleWrite, B: Below<'subs, W>>(
     ctx.unfence(items);
 }
 
-/// The name of an operator, behind `operator`.
+/// The name of an operator, as it stands behind `operator`.
 pub fn operator_name<'subs, W: DemangleWrite, B: Below<'subs, W>>(
     below: B,
     node: &'subs OperatorName,

@@ -1,4 +1,4 @@
-//! Qualifiers of functions, and what stands before an explicit object.
+//! Qualifiers of functions, and what stands before an explicit object parameter.
 
 ghost use Rattle.std.specs.Prelude.{◌≡◌, Some};
 ghost use Rattle.demangle_core.specs.Core.{Core};
@@ -19,7 +19,7 @@ use demangle_scope::{DemangleContext, DemangleWrite};
 use demangle_tree::CvQualifiers;
 use demangle_vocab::{ExplicitObjectParameter, RefQualifier};
 
-/// Whether some qualifier is there.
+/// Whether any qualifier is there.
 pub fn is_qualified(node: &CvQualifiers) -> bool
     ensures { (r : Refers) → result ≡ any_set (world_of r) (parts (world_of r) (tree_of_cv_qualifiers node.now)) }
 {
@@ -42,7 +42,7 @@ pub fn ref_qualifier<'subs, W: DemangleWrite, B: Below<'subs, W>>(
     ctx.text(word.text());
 }
 
-/// The same behind a space, where it is there.
+/// `&` or `&&` of a member function with a space before it, where it has one of them.
 #[inline(always)]
 pub fn reference_mark<'subs, W: DemangleWrite, B: Below<'subs, W>>(
     below: B,
@@ -61,7 +61,7 @@ pub fn reference_mark<'subs, W: DemangleWrite, B: Below<'subs, W>>(
     }
 }
 
-/// `this` before an explicit object.
+/// `this` before an explicit object parameter.
 pub fn explicit_object_parameter<'subs, W: DemangleWrite, B: Below<'subs, W>>(
     below: B,
     word: &ExplicitObjectParameter,

@@ -23,7 +23,7 @@ pub fn number<'subs, W: DemangleWrite>(n: isize, ctx: &mut DemangleContext<'subs
     ctx.text(room.signed(n));
 }
 
-/// A number that has no sign, in decimal.
+/// An unsigned number, in decimal.
 pub fn unsigned<'subs, W: DemangleWrite>(n: usize, ctx: &mut DemangleContext<'subs, '_, W>)
     ensures { Steps (page W.seen ctx.old) (page W.seen ctx.new) (written (signed_decimal (pos n))) }
 {

@@ -7,4 +7,4 @@ mod special;
 
 pub use offsets::call_offset;
 pub use resources::resource_name;
-pub use special::{special_name, special_name_steps};
+pub use special::special_name;

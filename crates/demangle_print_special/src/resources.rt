@@ -32,7 +32,7 @@ fn escaped(first: u8, second: u8) -> Option<&'static str>
     }
 }
 
-/// The character of a byte's number.
+/// The character whose number is this byte.
 fn character<'subs, W: DemangleWrite>(byte: u8, ctx: &mut DemangleContext<'subs, '_, W>)
     ensures { Steps (page W.seen ctx.old) (page W.seen ctx.new) (written (encode_utf8 byte)) }
 {
@@ -40,7 +40,7 @@ fn character<'subs, W: DemangleWrite>(byte: u8, ctx: &mut DemangleContext<'subs,
     ctx.text((byte as char).encode_utf8(&mut buffer));
 }
 
-/// The character at the front of bytes, which may be escaped, and the bytes behind it.
+/// Prints the first character of bytes, which may be escaped, and gives the bytes behind it.
 fn front_character<'b, 'subs, W: DemangleWrite>(
     bytes: &'b [u8],
     ctx: &mut DemangleContext<'subs, '_, W>,
@@ -94,7 +94,7 @@ pub fn resource_name<'subs, W: DemangleWrite, B: Below<'subs, W>>(
     characters(bytes_between(below.input(), node.start, node.end), ctx);
 }
 
-/// Components of a Java resource, one behind the other.
+/// Components of a Java resource, one after the other.
 pub(crate) fn each_resource<'subs, W: DemangleWrite, B: Below<'subs, W>>(
     below: B,
     nodes: &[ResourceName],

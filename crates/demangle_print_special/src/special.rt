@@ -1,4 +1,4 @@
-//! What the compiler makes beside functions and variables.
+//! What the compiler makes besides functions and variables.
 
 ghost use Rattle.std.specs.Prelude.{Some, map, pos};
 ghost use Rattle.std.specs.Fmt.{signed_decimal};
@@ -98,7 +98,7 @@ fn thunk<'subs, W: DemangleWrite, B: Below<'subs, W>>(
     ctx.text(")}");
 }
 
-/// The same with the offset of what is returned.
+/// A thunk with the offset of what is returned: `{virtual override thunk({offset(-8)}, {offset(4)}, A::f())}`.
 fn covariant_thunk<'subs, W: DemangleWrite, B: Below<'subs, W>>(
     below: B,
     this: &CallOffset,
@@ -162,7 +162,7 @@ fn vtt<'subs, W: DemangleWrite, B: Below<'subs, W>>(
     ctx.text(")}");
 }
 
-/// `construction vtable for B-in-A`.
+/// `construction vtable for A-in-B`: the derived class stands first.
 fn construction_vtable<'subs, W: DemangleWrite, B: Below<'subs, W>>(
     below: B,
     derived: &'subs TypeHandle,
@@ -219,7 +219,7 @@ fn java_resource<'subs, W: DemangleWrite, B: Below<'subs, W>>(
 }
 
 /// A special name, its level entered.
-pub fn special_name_steps<'subs, W: DemangleWrite, B: Below<'subs, W>>(
+fn special_name_steps<'subs, W: DemangleWrite, B: Below<'subs, W>>(
     below: B,
     node: &'subs SpecialName,
     scope: Option<ArgScopeStack<'_, 'subs>>,
@@ -258,7 +258,7 @@ pub fn special_name_steps<'subs, W: DemangleWrite, B: Below<'subs, W>>(
     }
 }
 
-/// What the compiler makes beside functions and variables.
+/// What the compiler makes besides functions and variables.
 pub fn special_name<'subs, W: DemangleWrite, B: Below<'subs, W>>(
     below: B,
     node: &'subs SpecialName,

@@ -22,7 +22,7 @@ use demangle_print_parts::unsigned;
 use demangle_scope::{ArgScopeStack, DemangleContext, DemangleWrite, InnerItem};
 use demangle_tree::{ArrayType, Substitutable, TypeHandle, TypeNode};
 
-/// What an item is to an array around which it stands.
+/// What an item is to the array that it stands around.
 #[derive(Clone, Copy, Debug)]
 pub(crate) enum ArrayTurn {
     /// An array of arrays.
@@ -100,7 +100,7 @@ fn item_turn<'subs, W: DemangleWrite, B: Below<'subs, W>>(
     }
 }
 
-/// The space before the bounds, where no other bounds stand before these.
+/// The space before the bounds, unless other bounds stand before them.
 fn space_before<'subs, W: DemangleWrite>(is_spaced: bool, ctx: &mut DemangleContext<'subs, '_, W>)
     ensures { (p : Place) → Meets p (page W.seen ctx.old) (page W.seen ctx.new)
         (before_bounds (world_of p.refers) is_spaced) }
@@ -223,7 +223,7 @@ fn bound<'subs, W: DemangleWrite, B: Below<'subs, W>>(
     }
 }
 
-/// Behind the elements of an array the items that stand around it, and its bounds.
+/// Behind the elements of an array: the items that stand around it, and its bounds.
 pub(crate) fn array_inside<'subs, W: DemangleWrite, B: Below<'subs, W>>(
     below: B,
     node: &'subs ArrayType,

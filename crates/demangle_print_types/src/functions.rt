@@ -19,7 +19,7 @@ use demangle_print_parts::{close, type_handle};
 use demangle_scope::{ArgScopeStack, DemangleContext, DemangleWrite, InnerItem};
 use demangle_tree::{BareFunctionType, ExceptionSpec, FunctionType, TypeHandle};
 
-/// The same as `close`, behind a space.
+/// A space and what of an item stands behind, where the item that was pushed at this level is still on top.
 fn close_spaced<'subs, W: DemangleWrite, B: Below<'subs, W>>(
     below: B,
     item: InnerItem<'subs>,
@@ -73,7 +73,7 @@ pub fn bare_function_type<'subs, W: DemangleWrite, B: Below<'subs, W>>(
     close_spaced(below, item, scope, ctx);
 }
 
-/// What the type of a function says of exceptions.
+/// The exception specification of a function's type.
 pub fn exception_spec<'subs, W: DemangleWrite, B: Below<'subs, W>>(
     below: B,
     node: &'subs ExceptionSpec,
@@ -97,7 +97,7 @@ pub fn exception_spec<'subs, W: DemangleWrite, B: Below<'subs, W>>(
     }
 }
 
-/// The same behind a space, where it is there.
+/// An exception specification with a space before it, where there is one.
 fn exception<'subs, W: DemangleWrite, B: Below<'subs, W>>(
     below: B,
     node: &'subs Option<ExceptionSpec>,

@@ -44,7 +44,7 @@ fn behind_result(types: &[TypeHandle]) -> &[TypeHandle]
     }
 }
 
-/// Behind a function its parameters: where its name has template arguments these are in scope, and the first type is
+/// Behind a function: its parameters. Where its name has template arguments, these are in scope, and the first type is
 /// the result.
 fn function_inside<'subs, W: DemangleWrite, B: Below<'subs, W>>(
     below: B,
@@ -59,6 +59,7 @@ fn function_inside<'subs, W: DemangleWrite, B: Below<'subs, W>>(
     ensures { Inside (B.at below) (page W.seen ctx.old) (page W.seen ctx.new) (tree_of_encoding node.now)
         (scope_of scope.entry) }
 {
+    // Only the contract speaks of the node.
     let _node = node;
     match name.get_template_args(below.subs()) {
         None => parameters_steps(below, types.0.as_slice(), scope, ctx),
@@ -69,7 +70,7 @@ fn function_inside<'subs, W: DemangleWrite, B: Below<'subs, W>>(
     }
 }
 
-/// Behind a function its parameters, and nothing behind an object.
+/// Behind a function: its parameters. Behind an object: nothing.
 fn encoding_inside<'subs, W: DemangleWrite, B: Below<'subs, W>>(
     below: B,
     node: &'subs Encoding,
@@ -87,7 +88,7 @@ fn encoding_inside<'subs, W: DemangleWrite, B: Below<'subs, W>>(
     }
 }
 
-/// Behind a qualified type its qualifiers, behind a pointer or a reference its mark.
+/// Behind a qualified type: its qualifiers. Behind a pointer or a reference: its mark.
 fn type_inside<'subs, W: DemangleWrite, B: Below<'subs, W>>(
     below: B,
     node: &TypeNode,
@@ -121,7 +122,7 @@ fn qualifiers_if<'subs, W: DemangleWrite, B: Below<'subs, W>>(
     }
 }
 
-/// Behind the type of a function the qualifiers and the mark of the object.
+/// Behind the type of a function: its qualifiers, and `&` or `&&`.
 fn function_type_inside<'subs, W: DemangleWrite, B: Below<'subs, W>>(
     below: B,
     node: &FunctionType,
@@ -135,7 +136,7 @@ fn function_type_inside<'subs, W: DemangleWrite, B: Below<'subs, W>>(
     reference_mark(below, &node.ref_qualifier, ctx);
 }
 
-/// Behind the types of a function its parameters: all of them but the result.
+/// Behind the types of a function: its parameters, which are all of them but the result.
 fn bare_inside<'subs, W: DemangleWrite, B: Below<'subs, W>>(
     below: B,
     node: &'subs BareFunctionType,
@@ -149,7 +150,7 @@ fn bare_inside<'subs, W: DemangleWrite, B: Below<'subs, W>>(
     parameters(below, behind_result(node.0.as_slice()), scope, ctx);
 }
 
-/// Behind a vector its length.
+/// Behind a vector: its length.
 fn vector_inside<'subs, W: DemangleWrite, B: Below<'subs, W>>(
     below: B,
     node: &'subs VectorType,
@@ -174,8 +175,8 @@ fn vector_inside<'subs, W: DemangleWrite, B: Below<'subs, W>>(
     }
 }
 
-/// A space, but behind an opening parenthesis.
-fn space_apart<'subs, W: DemangleWrite>(ctx: &mut DemangleContext<'subs, '_, W>)
+/// A space, unless `(` stands there.
+fn space_unless_open<'subs, W: DemangleWrite>(ctx: &mut DemangleContext<'subs, '_, W>)
     ensures { (p : Place) → Meets p (page W.seen ctx.old) (page W.seen ctx.new)
         (chosen (not (is_byte 40 (page W.seen ctx.old).last)) (space done) done) }
 {
@@ -184,7 +185,7 @@ fn space_apart<'subs, W: DemangleWrite>(ctx: &mut DemangleContext<'subs, '_, W>)
     }
 }
 
-/// Behind the type of a member its class and the mark of a pointer to it.
+/// Behind the type of a member: its class and `::*`.
 fn member_inside<'subs, W: DemangleWrite, B: Below<'subs, W>>(
     below: B,
     node: &'subs PointerToMemberType,
@@ -195,12 +196,12 @@ fn member_inside<'subs, W: DemangleWrite, B: Below<'subs, W>>(
     ensures { Inside (B.at below) (page W.seen ctx.old) (page W.seen ctx.new)
         (tree_of_pointer_to_member_type node.now) (scope_of scope.entry) }
 {
-    space_apart(ctx);
+    space_unless_open(ctx);
     type_handle(below, &node.0, scope, ctx);
     ctx.text("::*");
 }
 
-/// Behind a builtin type its qualifiers.
+/// Behind a builtin type: its qualifiers.
 fn qualifiers_inside<'subs, W: DemangleWrite, B: Below<'subs, W>>(
     below: B,
     node: &CvQualifiers,
@@ -210,6 +211,7 @@ fn qualifiers_inside<'subs, W: DemangleWrite, B: Below<'subs, W>>(
     ensures { (sc : Scope Core) → Inside (B.at below) (page W.seen ctx.old) (page W.seen ctx.new)
         (tree_of_cv_qualifiers node.now) sc }
 {
+    // Only the contract speaks of the place: qualifiers have no parts.
     let _below = below;
     qualifier_words(node, ctx);
 }

@@ -1,4 +1,4 @@
-//! Lines of types and of their functions, and what of inner items stands behind.
+//! The lines of types, and of what of an inner item stands behind.
 #![tactic(auto)]
 
 mod arrays;
@@ -12,7 +12,7 @@ mod waiting;
 
 pub use functions::{bare_function_type, exception_spec, function_type};
 pub use inside::inner_steps;
-pub use parameter_lists::{parameters, parameters_steps};
+pub use parameter_lists::parameters;
 pub use types::{
     array_type, class_enum_type, pointer_to_member_type, type_node, type_node_steps, vector_type,
 };

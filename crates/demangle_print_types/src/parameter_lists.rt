@@ -31,8 +31,8 @@ fn is_kept(item: InnerItem<'_>) -> bool
     }
 }
 
-/// Of all items that wait, from the top, those are kept that stand behind the parameters; what of each other one stands
-/// behind is printed.
+/// Goes through all items that wait, from the top: keeps those that stand behind the parameters, and prints what of
+/// each other one stands behind.
 fn sift<'subs, W: DemangleWrite, B: Below<'subs, W>>(
     below: B,
     scope: Option<ArgScopeStack<'_, 'subs>>,
@@ -68,7 +68,7 @@ fn is_void_builtin(node: &BuiltinType) -> bool
     }
 }
 
-/// Whether a type is `void`, by itself: a component never is.
+/// Whether a type is just `void`: a component never is.
 fn is_void_type<'subs, W: DemangleWrite, B: Below<'subs, W>>(below: B, node: &TypeHandle) -> bool
     ensures { result ≡ is_void_tree (world_of (B.at below).refers) (tree_of_type_handle node.now) }
 {
@@ -93,7 +93,7 @@ fn is_void<'subs, W: DemangleWrite, B: Below<'subs, W>>(below: B, types: &[TypeH
     }
 }
 
-/// The mark of an explicit object, which the first parameter has.
+/// `this` before the first parameter, where it is an explicit object parameter.
 fn explicit_object<'subs, W: DemangleWrite>(ctx: &mut DemangleContext<'subs, '_, W>)
     ensures { (p : Place) → Meets p (page W.seen ctx.old) (page W.seen ctx.new)
         (explicit_object (world_of p.refers) (page W.seen ctx.old).flags.object) }
@@ -130,7 +130,7 @@ fn list_of_parameters<'subs, W: DemangleWrite, B: Below<'subs, W>>(
 }
 
 /// The parameters of a function behind what stands between them and its result, their level entered.
-pub fn parameters_steps<'subs, W: DemangleWrite, B: Below<'subs, W>>(
+pub(crate) fn parameters_steps<'subs, W: DemangleWrite, B: Below<'subs, W>>(
     below: B,
     types: &'subs [TypeHandle],
     scope: Option<ArgScopeStack<'_, 'subs>>,

@@ -16,7 +16,7 @@ use demangle_tree::TypeNode;
 pub(crate) enum Parentheses {
     /// There are none.
     Needless,
-    /// There are, with a space before them where no other one or a star is.
+    /// There are, with a space before them unless `(` or `*` stands there.
     Plain,
     /// There are, with a space before them.
     Spaced,
@@ -44,7 +44,7 @@ fn item_wants(item: InnerItem<'_>) -> Parentheses
     }
 }
 
-/// As the first item from the top wants that wants any.
+/// What the first item wants, from the top, that wants any parentheses.
 pub(crate) fn wanted<'subs, W: DemangleWrite>(ctx: &DemangleContext<'subs, '_, W>) -> Parentheses
     ensures { (r : Refers) → wanted_of result ≡ wanted (world_of r) (page W.seen ctx.now).inner }
 {
@@ -61,8 +61,8 @@ pub(crate) fn wanted<'subs, W: DemangleWrite>(ctx: &DemangleContext<'subs, '_, W
     Parentheses::Needless
 }
 
-/// A space, but behind an opening parenthesis or a star.
-fn space_apart<'subs, W: DemangleWrite>(ctx: &mut DemangleContext<'subs, '_, W>)
+/// A space, unless `(` or `*` stands there.
+fn space_unless_open_or_star<'subs, W: DemangleWrite>(ctx: &mut DemangleContext<'subs, '_, W>)
     ensures { (p : Place) → Meets p (page W.seen ctx.old) (page W.seen ctx.new)
         (space_unless (world_of p.refers)
         (is_byte 40 (page W.seen ctx.old).last || is_byte 42 (page W.seen ctx.old).last)) }
@@ -76,7 +76,7 @@ fn space_apart<'subs, W: DemangleWrite>(ctx: &mut DemangleContext<'subs, '_, W>)
     ctx.space();
 }
 
-/// The opening one.
+/// The opening parenthesis, where there are parentheses.
 pub(crate) fn opening<'subs, W: DemangleWrite>(
     parentheses: Parentheses,
     ctx: &mut DemangleContext<'subs, '_, W>,
@@ -87,7 +87,7 @@ pub(crate) fn opening<'subs, W: DemangleWrite>(
     match parentheses {
         Parentheses::Needless => {}
         Parentheses::Plain => {
-            space_apart(ctx);
+            space_unless_open_or_star(ctx);
             ctx.text("(");
         }
         Parentheses::Spaced => {
@@ -97,7 +97,7 @@ pub(crate) fn opening<'subs, W: DemangleWrite>(
     }
 }
 
-/// The closing one.
+/// The closing parenthesis, where there are parentheses.
 pub(crate) fn closing<'subs, W: DemangleWrite>(
     parentheses: Parentheses,
     ctx: &mut DemangleContext<'subs, '_, W>,

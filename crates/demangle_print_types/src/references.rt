@@ -48,7 +48,7 @@ fn is_lvalue_item(item: InnerItem<'_>) -> bool
     }
 }
 
-/// Whether a right reference is on top.
+/// Whether an rvalue reference is on top.
 fn is_rvalue_top<'subs, W: DemangleWrite>(ctx: &DemangleContext<'subs, '_, W>) -> bool
     ensures { (r : Refers) → result ≡ is_rvalue_top (world_of r) (page W.seen ctx.now).inner }
 {
@@ -58,7 +58,7 @@ fn is_rvalue_top<'subs, W: DemangleWrite>(ctx: &DemangleContext<'subs, '_, W>) -
     }
 }
 
-/// Whether a left reference is on top.
+/// Whether an lvalue reference is on top.
 fn is_lvalue_top<'subs, W: DemangleWrite>(ctx: &DemangleContext<'subs, '_, W>) -> bool
     ensures { (r : Refers) → result ≡ is_lvalue_top (world_of r) (page W.seen ctx.now).inner }
 {
@@ -68,7 +68,7 @@ fn is_lvalue_top<'subs, W: DemangleWrite>(ctx: &DemangleContext<'subs, '_, W>) -
     }
 }
 
-/// Takes right references from the top.
+/// Takes rvalue references from the top.
 fn take_rvalues<'subs, W: DemangleWrite>(ctx: &mut DemangleContext<'subs, '_, W>)
     ensures { (p : Place) → Meets p (page W.seen ctx.old) (page W.seen ctx.new)
         (rvalues (world_of p.refers) (length (page W.seen ctx.old).inner)) }
@@ -78,7 +78,7 @@ fn take_rvalues<'subs, W: DemangleWrite>(ctx: &mut DemangleContext<'subs, '_, W>
     }
 }
 
-/// One mark for adjacent references: this one, unless a left reference waits, which is printed later.
+/// One mark for adjacent references: this one, unless an lvalue reference waits, whose mark is printed later.
 pub(crate) fn joined<'subs, W: DemangleWrite>(mark: &str, ctx: &mut DemangleContext<'subs, '_, W>)
     ensures { (p : Place) → Meets p (page W.seen ctx.old) (page W.seen ctx.new)
         (joined (world_of p.refers) (text mark.now done) done) }

@@ -27,7 +27,7 @@ use demangle_tree::{
     TemplateTemplateParamHandle, TypeHandle, TypeNode, VectorType,
 };
 
-/// A type in the midst of an item: behind it stands what of the item does, where nothing within asked for that.
+/// A type in the midst of an item, and what of the item stands behind it, unless something within printed that already.
 fn around<'subs, W: DemangleWrite, B: Below<'subs, W>>(
     below: B,
     item: InnerItem<'subs>,
@@ -79,7 +79,7 @@ fn template_template<'subs, W: DemangleWrite, B: Below<'subs, W>>(
     template_args(below, args, scope, ctx);
 }
 
-/// A type, and behind it a qualifier of a compiler's own with its arguments.
+/// A type, and behind it a vendor's qualifier with its template arguments.
 fn vendor_extension<'subs, W: DemangleWrite, B: Below<'subs, W>>(
     below: B,
     name: &SourceName,

@@ -13,7 +13,7 @@ ghost use Rattle.demangle_print_below.specs.PageOf.{page};
 use demangle_print_below::Below;
 use demangle_scope::{ArgScopeStack, DemangleContext, DemangleWrite, InnerItem};
 
-/// The item on top is taken, and printed what of it stands behind.
+/// Takes the item on top, and prints what of it stands behind.
 pub(crate) fn take_top<'subs, W: DemangleWrite, B: Below<'subs, W>>(
     below: B,
     item: InnerItem<'subs>,

@@ -73,9 +73,9 @@ returns-then-is_type-2 g c =
           c.text-then-is_type-2.ensures meets_done) meets_done) meets_done) meets_done) meets_done;
     }
 
-pub returns-then-is_real : goal.returns-then-is_real
+pub returns-then-is_floating : goal.returns-then-is_floating
 unfolding body line_steps
-returns-then-is_real g c =
+returns-then-is_floating g c =
     record {
       meets = meets_else _ (of_bytes (world_of (g.B.Below.at c.args.below).refers) (tree_of_type_handle
           c.args.handle.now) (number_of_builtin Bool) (codes "0") c.is_truth_value.ensures
@@ -86,8 +86,8 @@ returns-then-is_real g c =
           (codes "1") c.is_truth_value-else-is_truth_value.ensures (c.bytes_between-bytes.ensures ∙ ap (λ i. bytes_of i
           c.args.start c.args.stop) c.input.ensures)) c.if-is_truth_value-2.false (meets_else _ c.is_type.ensures
           c.if-is_type.false (meets_else _ c.is_type-else-is_type.ensures c.if-is_type-2.false
-          (meets_if _ c.is_real.ensures
-          c.if-is_real.true (meets_block c.type_first.ensures (meets_block (meets_at (λ bs. real_of bs)
+          (meets_if _ c.is_floating.ensures
+          c.if-is_floating.true (meets_block c.type_first.ensures (meets_block (meets_at (λ bs. real_of bs)
           (c.bytes_between-bytes.ensures ∙ ap (λ i. bytes_of i c.args.start c.args.stop) c.input.ensures)
           (c.real_bytes.ensures
           (g.B.Below.at c.args.below))) meets_done)) meets_done) meets_done) meets_done) meets_done)
@@ -107,8 +107,8 @@ returns-then-is_type-3 g c =
           (codes "1") c.is_truth_value-else-is_truth_value.ensures (c.bytes_between-bytes.ensures ∙ ap (λ i. bytes_of i
           c.args.start c.args.stop) c.input.ensures)) c.if-is_truth_value-2.false (meets_else _ c.is_type.ensures
           c.if-is_type.false (meets_else _ c.is_type-else-is_type.ensures c.if-is_type-2.false (meets_else _
-          c.is_real.ensures c.if-is_real.false (meets_if _ c.is_type-else-is_real.ensures c.if-is_type-3.true
-          (meets_block
+          c.is_floating.ensures c.if-is_floating.false (meets_if _ c.is_type-else-is_floating.ensures
+          c.if-is_type-3.true (meets_block
           (meets_at (λ bs. digits_of bs) (c.bytes_between-bytes.ensures ∙ ap (λ i. bytes_of i c.args.start c.args.stop)
           c.input.ensures) (c.digits-then-is_type-3.ensures (g.B.Below.at c.args.below))) meets_done) meets_done)
           meets_done) meets_done) meets_done) meets_done) meets_done;
@@ -127,7 +127,8 @@ returns-else-is_type-3 g c =
           (codes "1") c.is_truth_value-else-is_truth_value.ensures (c.bytes_between-bytes.ensures ∙ ap (λ i. bytes_of i
           c.args.start c.args.stop) c.input.ensures)) c.if-is_truth_value-2.false (meets_else _ c.is_type.ensures
           c.if-is_type.false (meets_else _ c.is_type-else-is_type.ensures c.if-is_type-2.false (meets_else _
-          c.is_real.ensures c.if-is_real.false (meets_else _ c.is_type-else-is_real.ensures c.if-is_type-3.false
+          c.is_floating.ensures c.if-is_floating.false (meets_else _ c.is_type-else-is_floating.ensures
+          c.if-is_type-3.false
           (meets_block c.type_first-else-is_type-3.ensures (meets_block (meets_at (λ bs. digits_of bs)
           (c.bytes_between-bytes.ensures ∙ ap (λ i. bytes_of i c.args.start c.args.stop) c.input.ensures)
           (c.digits-else-is_type-3.ensures

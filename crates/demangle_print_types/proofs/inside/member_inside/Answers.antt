@@ -8,6 +8,6 @@ use Rattle.demangle_print_types.proofs.inside.member_inside.Goals as goal
 pub returns : goal.returns
 unfolding body inside_steps
 returns g c = record {
-  meets = meets_ask (λ _. refl) (c.space_apart.ensures _)
+  meets = meets_ask (λ _. refl) (c.space_unless_open.ensures _)
       (meets_part c.type_handle.ensures (meets_text c.text.ensures meets_done));
 }

@@ -7,7 +7,8 @@ returns-in-Needless g c = λ p. rw c.in-Needless.is meets_done
 
 pub returns-in-Plain : goal.returns-in-Plain
 returns-in-Plain g c = λ p.
-    rw c.in-Plain.is (meets_ask (λ _. refl) (c.space_apart.ensures p) (meets_text c.text.ensures meets_done))
+    rw c.in-Plain.is (meets_ask (λ _. refl) (c.space_unless_open_or_star.ensures p)
+    (meets_text c.text.ensures meets_done))
 
 pub returns-in-Spaced : goal.returns-in-Spaced
 returns-in-Spaced g c = λ p.

@@ -5,7 +5,7 @@ use Rattle.demangle_meets.specs.Place.{world_of}
 use Rattle.demangle_meets.proofs.Acts.{meets_done, meets_space}
 use Rattle.demangle_meets.proofs.Parts.{meets_at}
 use Rattle.demangle_print_below.specs.PageOf.{page}
-use Rattle.demangle_print_types.proofs.parentheses.space_apart.Goals as goal
+use Rattle.demangle_print_types.proofs.parentheses.space_unless_open_or_star.Goals as goal
 
 pub returns-then-last_is : goal.returns-then-last_is
 returns-then-last_is g c = λ p.

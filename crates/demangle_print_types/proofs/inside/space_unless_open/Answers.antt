@@ -4,7 +4,7 @@ use Rattle.demangle_printing.specs.Act.{done, space}
 use Rattle.demangle_printing.specs.Reader.{chosen}
 use Rattle.demangle_meets.proofs.Acts.{meets_done, meets_space}
 use Rattle.demangle_meets.proofs.Parts.{meets_at}
-use Rattle.demangle_print_types.proofs.inside.space_apart.Goals as goal
+use Rattle.demangle_print_types.proofs.inside.space_unless_open.Goals as goal
 
 pub returns-then-not-last_is : goal.returns-then-not-last_is
 returns-then-not-last_is g c = λ p.
