@@ -24,7 +24,7 @@ use demangle_below::Below;
 use demangle_entries::{Expression, FunctionParam, TemplateParam};
 use demangle_leaf_rows::{Depth, ReadLeaf};
 use demangle_parse_types::expr_primary;
-use demangle_row_parts::{AllocationForms, ExpressionWord, expression_word, fold_begins};
+use demangle_row_parts::{AllocationForms, ExpressionWord, begins_fold, expression_word};
 use demangle_table::SubstitutionTable;
 use demangle_text::{IndexStr, Result};
 use std::alloc::Global;
@@ -93,7 +93,7 @@ fn any_expression<'b, B: Below>(
     if let Ok((word, rest)) = expression_word(input) {
         return worded(below, alloc, depth, subs, word, rest);
     }
-    if fold_begins(input) {
+    if begins_fold(input) {
         let (fold, rest) = fold_expr(below, alloc, depth, subs, input)?;
         return Ok((Expression::Fold(fold), rest));
     }

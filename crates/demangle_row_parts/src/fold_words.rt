@@ -79,7 +79,7 @@ impl TwoSided {
 
 /// Whether a fold begins here: `fl`, `fr`, `fR`, or `fL` and no digit, which would be that of a function parameter.
 #[tactic(auto, unfolding(demangle_forms::specs::ExpressionForms::fold_next))]
-pub fn fold_begins<'b>(input: IndexStr<'b>) -> bool
+pub fn begins_fold<'b>(input: IndexStr<'b>) -> bool
     ensures { result ≡ fold_next (spot input.entry).left }
 {
     match input.as_slice() {

@@ -25,7 +25,7 @@ pub use expression_words::{
     AccessWord, CallWord, CastWord, ExpressionWord, MemberWord, TypeWord, UnaryWord,
     expression_word, subobject_offset,
 };
-pub use fold_words::{FoldWord, OneSided, TwoSided, fold_begins, fold_operator, fold_word};
+pub use fold_words::{FoldWord, OneSided, TwoSided, begins_fold, fold_operator, fold_word};
 pub use handles::{
     prefix_of, template_name_of, template_template_param_of, type_of, unresolved_type_of,
 };
