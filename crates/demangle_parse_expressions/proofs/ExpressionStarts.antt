@@ -164,7 +164,7 @@ expression_starts of_start.All f c s l e = refl
 expression_starts of_start.Parameters f c s l e =
     let n = one_or_end (codes "T") s.spot.left e in
     to_parameters (cread f) c s (codes "T") n refl refl refl refl refl
-expression_starts of_start.References f c s l e =
+expression_starts of_start.UnresolvedNames f c s l e =
     let xs = codes "0123456789" in
     let n = digits_or_end s.spot.left e in
     to_parameters (cread f) c s xs n refl refl refl refl refl

@@ -15,7 +15,7 @@ use Rattle.demangle_parse_expressions.specs.declared.first_bytes.ExpressionStart
 abbrev pub leaves_expression : ExpressionStart → List ℕ → Bool
 leaves_expression of_start.All bs = true
 leaves_expression of_start.Parameters bs = next_is (these "T") bs
-leaves_expression of_start.References bs = next_is Class.digits bs
+leaves_expression of_start.UnresolvedNames bs = next_is Class.digits bs
 leaves_expression of_start.Literals bs = next_is (these "L") bs
 leaves_expression of_start.Operators bs = is_empty bs || next_is (these "E_") bs
 
@@ -31,6 +31,6 @@ literals_at go c s =
 abbrev pub expression_from : ExpressionStart → Go → Bool → Here → Reply
 expression_from of_start.All go c s = expression_at go c s
 expression_from of_start.Parameters go c s = parameters_at go c s
-expression_from of_start.References go c s = references_at go c s
+expression_from of_start.UnresolvedNames go c s = references_at go c s
 expression_from of_start.Literals go c s = literals_at go c s
 expression_from of_start.Operators go c s = operators_at go c s

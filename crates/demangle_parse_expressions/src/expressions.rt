@@ -70,7 +70,7 @@ fn alternatives<'b, B: Below>(
     match expression_start(depth, input) {
         ExpressionStart::All => any_expression(below, alloc, depth, subs, input),
         ExpressionStart::Parameters => parameter_or_unresolved(below, alloc, depth, subs, input),
-        ExpressionStart::References => unresolved_or_literal(below, alloc, depth, subs, input),
+        ExpressionStart::UnresolvedNames => unresolved_or_literal(below, alloc, depth, subs, input),
         ExpressionStart::Literals => literal_or_operator(below, alloc, depth, subs, input),
         ExpressionStart::Operators => operators(below, alloc, depth, subs, input),
     }

@@ -21,7 +21,7 @@ pub enum ExpressionStart {
     /// Parameters: `T`.
     Parameters,
     /// Unresolved names: a digit.
-    References,
+    UnresolvedNames,
     /// Literals: `L`.
     Literals,
     /// Operators, the last alternative; a byte that begins no expression is refused there.
@@ -57,7 +57,7 @@ fn start_by(first: u8, rest: &[u8]) -> ExpressionStart
 {
     match first {
         b'T' => ExpressionStart::Parameters,
-        b'0'..=b'9' => ExpressionStart::References,
+        b'0'..=b'9' => ExpressionStart::UnresolvedNames,
         b'L' => ExpressionStart::Literals,
         b'E' | b'_' => ExpressionStart::Operators,
         _ => ExpressionStart::All,

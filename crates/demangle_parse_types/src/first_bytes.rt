@@ -27,7 +27,7 @@ pub enum TypeStart {
     /// Classes and enumerations: a digit, `N`, `Z`, `L`, `C` or `St`.
     Names,
     /// Substitutions, then the alternatives from classes on: `S` and no `t`.
-    References,
+    Substitutions,
     /// Functions: `F`.
     Functions,
     /// Arrays and pointers to members: `A` or `M`.
@@ -71,7 +71,7 @@ fn start_by(first: u8, rest: &[u8]) -> TypeStart
             if begins_std(rest) {
                 TypeStart::Names
             } else {
-                TypeStart::References
+                TypeStart::Substitutions
             }
         }
         b'T' => {

@@ -71,7 +71,7 @@ fn type_alternatives<'b, B: Below>(
         TypeStart::All => any_type(below, alloc, depth, subs, input),
         TypeStart::Qualified => qualified_or_named(below, alloc, depth, subs, input),
         TypeStart::Names => type_names(below, alloc, depth, subs, input),
-        TypeStart::References => substitution_or_named(below, alloc, depth, subs, input),
+        TypeStart::Substitutions => substitution_or_named(below, alloc, depth, subs, input),
         TypeStart::Functions => function_or_shape(below, alloc, depth, subs, input),
         TypeStart::Shapes => type_shapes(below, alloc, depth, subs, input),
         TypeStart::Templates => type_templates(below, alloc, depth, subs, input),
