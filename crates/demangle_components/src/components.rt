@@ -23,9 +23,9 @@ pub struct Components<T> {
     numbered: Vec<T>,
     others: Vec<T>,
     // How many numbered components stood at the insertion of each of the others.
-    kept: Vec<usize>,
-    ghost paired: { length kept.items ≡ length others.items },
-    ghost rising: { Rise 0 (length numbered.items) kept.items } by { Rise-prop 0 (length numbered.items) kept.items },
+    numbered_before: Vec<usize>,
+    ghost paired: { length numbered_before.items ≡ length others.items },
+    ghost rising: { Rise 0 (length numbered.items) numbered_before.items } by { Rise-prop 0 (length numbered.items) numbered_before.items },
 }
 
 impl<T: Component> Components<T> {
@@ -39,7 +39,7 @@ impl<T: Component> Components<T> {
         Components {
             numbered: Vec::new(alloc),
             others: Vec::new(alloc),
-            kept: Vec::new(alloc),
+            numbered_before: Vec::new(alloc),
         }
     }
 
@@ -51,7 +51,7 @@ impl<T: Component> Components<T> {
         Components {
             numbered: list,
             others: Vec::new(alloc),
-            kept: Vec::new(alloc),
+            numbered_before: Vec::new(alloc),
         }
     }
 
@@ -86,13 +86,13 @@ impl<T: Component> Components<T> {
         ensures handed_back { IfErr result (λ e. e ≡ component) }
     {
         let position = self.others.len();
-        if self.kept.push(self.numbered.len()).is_err() {
+        if self.numbered_before.push(self.numbered.len()).is_err() {
             return Err(component);
         }
         match self.others.push(component) {
             Ok(()) => Ok(position),
             Err(failed) => {
-                self.kept.pop();
+                self.numbered_before.pop();
                 Err(failed.value)
             }
         }
@@ -184,7 +184,7 @@ impl<T: Component> Components<T> {
         ensures unchanged { IfNone result (table_of T.tree self.new ≡ table_of T.tree self.old) }
     {
         let last = self.numbered.pop()?;
-        lower(&mut self.kept, self.numbered.len());
+        lower(&mut self.numbered_before, self.numbered.len());
         Some(last)
     }
 
@@ -201,11 +201,11 @@ impl<T: Component> Components<T> {
     {
         let numbered = copied(alloc, &self.numbered, copier)?;
         let others = copied(alloc, &self.others, copier)?;
-        let kept = Vec::from_slice(alloc, &self.kept)?;
+        let numbered_before = Vec::from_slice(alloc, &self.numbered_before)?;
         Ok(Components {
             numbered,
             others,
-            kept,
+            numbered_before,
         })
     }
 
@@ -217,8 +217,8 @@ impl<T: Component> Components<T> {
     {
         self.numbered.truncate(lengths.0);
         self.others.truncate(lengths.1);
-        self.kept.truncate(lengths.1);
-        lower(&mut self.kept, lengths.0);
+        self.numbered_before.truncate(lengths.1);
+        lower(&mut self.numbered_before, lengths.0);
     }
 }
 

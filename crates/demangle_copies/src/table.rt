@@ -9,6 +9,7 @@ use demangle_table::{CopyComponent, SubstitutionTable};
 use demangle_text::Result;
 use std::alloc::Global;
 
+/// Copies a component as `try_clone` does.
 struct ByTryClone;
 
 impl CopyComponent<Substitutable> for ByTryClone {

@@ -1,6 +1,6 @@
-//! What a reader lets go. Each node type that one does stands here by name, so that its drop is proved in this crate, and
-//! not again in every crate whose functions let one go, as the bound `Drop` would ask for. It is let go by a call: at
-//! the end of a function a node's drop would be written out, with all variants of the nodes inside of it.
+//! What a reader drops. Each node type that it drops stands here by name, so that its drop is proved in this crate,
+//! and not again in every crate whose functions drop one, as the bound `Drop` would ask for. A node is dropped by a
+//! call: at the end of a function its drop would be written out, with all variants of the nodes inside it.
 #![tactic(auto)]
 
 use demangle_entries::{
@@ -113,9 +113,7 @@ impl Discard for Name {
 }
 
 impl Discard for ResourceName {
-    fn discard(self) {
-        drop(self);
-    }
+    fn discard(self) {}
 }
 
 impl Discard for SpecialName {

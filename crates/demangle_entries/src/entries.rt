@@ -1,7 +1,7 @@
 //! The node types above names and expressions: types, prefixes, and the entries of the substitution table.
 //!
-//! Beside each type stands its production, in the BNF of the Itanium C++ ABI. An example is C++ and the bytes that are
-//! read as this node. In it `g` is an object or a function, and `T` the first template parameter.
+//! Beside each type stands its production, in the BNF of the Itanium C++ ABI. An example shows C++ and the bytes that
+//! are read as this node. In it `g` is an object or a function, and `T` the first template parameter.
 
 use demangle_leaf_nodes::{
     BareFunctionType, CvQualifiers, DataMemberPrefix, PointerToMemberType, PrefixHandle,
@@ -11,14 +11,14 @@ use demangle_leaf_nodes::{
 use demangle_nodes::{Expression, Name, TemplateArgs};
 use demangle_vocab::RefQualifier;
 
-/// `decltype` of an expression. ABI section 5.1.5.5.
+/// `decltype` of an expression. ABI section 5.1.5.
 ///
 /// ```text
 /// <decltype> ::= Dt <expression> E | DT <expression> E
 /// ```
 #[derive(Drop, Debug)]
 pub enum Decltype {
-    /// Of a name or a member access, whose own type it is, `decltype(g)`: `Dt1gE`.
+    /// Of a name or a member access: the type that it was declared with, `decltype(g)`: `Dt1gE`.
     IdExpression(Box<Expression>),
     /// Of another expression, `decltype(g())`: `DTcl1gEE`.
     Expression(Box<Expression>),
@@ -64,7 +64,7 @@ pub enum ArrayType {
     NoDimension(TypeHandle),
 }
 
-/// A vector, as compilers have it: its length, and the type of its elements. ABI section 5.1.5.
+/// A vector, an extension of compilers: its length, and the type of its elements. ABI section 5.1.5.
 ///
 /// ```text
 /// <vector-type> ::= Dv <number> _ <type> | Dv <expression> _ <type>
@@ -108,7 +108,7 @@ pub enum ExceptionSpec {
 }
 
 /// The type of a function, `int (char)`: `FicE`. ABI section 5.1.5.3. `Dx` says that a transaction may call it, and
-/// `Y` that it is a function of C.
+/// `Y` that it has C linkage.
 ///
 /// ```text
 /// <function-type> ::= [<CV-qualifiers>] [<exception-spec>] [Dx] F [Y] <bare-function-type> [<ref-qualifier>] E
@@ -123,7 +123,7 @@ pub struct FunctionType {
     pub ref_qualifier: Option<RefQualifier>,
 }
 
-/// A type that takes an entry of the table. ABI section 5.1.5.
+/// A type that has an entry in the table. ABI section 5.1.5.
 ///
 /// ```text
 /// <type> ::= <function-type> | <class-enum-type> | <array-type> | <vector-type> | <pointer-to-member-type>
@@ -151,7 +151,7 @@ pub enum TypeNode {
     Decltype(Decltype),
     /// `const int`: `Ki`.
     Qualified(CvQualifiers, TypeHandle),
-    /// A type with a qualifier of a compiler's own, `char AS1`: `U3AS1c`.
+    /// A type with a compiler's own qualifier, `char AS1`: `U3AS1c`.
     VendorExtension(SourceName, Option<TemplateArgs>, TypeHandle),
     /// `int*`: `Pi`.
     PointerTo(TypeHandle),
@@ -159,15 +159,15 @@ pub enum TypeNode {
     LvalueRef(TypeHandle),
     /// `int&&`: `Oi`.
     RvalueRef(TypeHandle),
-    /// A complex number, of C, `float _Complex`: `Cf`.
+    /// A complex number in C, `float _Complex`: `Cf`.
     Complex(TypeHandle),
-    /// An imaginary number, of C, `float _Imaginary`: `Gf`.
+    /// An imaginary number in C, `float _Imaginary`: `Gf`.
     Imaginary(TypeHandle),
     /// A pattern that is repeated for each element of a pack, `T...`: `DpT_`.
     PackExpansion(TypeHandle),
 }
 
-/// A type that is known by a template parameter or a `decltype` alone. ABI section 5.1.6.
+/// A type that is given by a template parameter or a `decltype` alone. ABI section 5.1.6.
 ///
 /// ```text
 /// <unresolved-type> ::= <template-param> [<template-args>] | <decltype>
@@ -197,6 +197,6 @@ pub enum Substitutable {
     UnresolvedType(UnresolvedType),
     /// A scope, `a` of `a::f`: `1a`.
     Prefix(Prefix),
-    /// The width of a `_BitInt` type, which stands in the second list alone, `T` of `_BitInt(T)`: `T_`.
+    /// The width of a `_BitInt` type, which stands only in the second list, `T` of `_BitInt(T)`: `T_`.
     Expression(Box<Expression>),
 }

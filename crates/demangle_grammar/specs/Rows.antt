@@ -122,7 +122,8 @@ type_marks k =
     // w "Dp" · t · type_component Tag.TypeNodePackExpansion) k
 
 -- ---- parts of other rows
--- <ctor-dtor-name> ::= C1 | C2 | C3 | C4 | CI1 <type> | CI2 <type> | CI3 <type> | CI4 <type>, behind C or CI (5.1.4.3)
+-- <ctor-dtor-name> ::= C1 | C2 | C3 | CI1 <base class type> | CI2 <base class type>, behind C or CI (5.1.4.3); CI3 and
+-- the 4s are compilers' additions
 abbrev pub constructors : Item → Item
 constructors x k =
     (w "1" · commit · x · made Tag.CtorDtorNameCompleteConstructor
@@ -247,7 +248,7 @@ abbrev pub of_name : String → Tag → Item
 of_name s x k = (w s · commit · r Row.name · made x) k
 
 -- <special-name> ::= TH <name> | TW <name> | GV <name> | GR <name> _ | GR <name> <seq-id> _
--- | Gr <number> _ <resource-name>* | GTn <encoding> | GT <one byte> <encoding>
+-- | Gr <number> _ <resource-name>* | GTn <encoding> | GT <any byte but n> <encoding>
 abbrev pub guards : Item
 guards k =
     (of_name "TH" Tag.SpecialNameTlsInit // of_name "TW" Tag.SpecialNameTlsWrapper // of_name "GV" Tag.SpecialNameGuard
@@ -265,7 +266,7 @@ rule Row.simple_operator_name = eat (Eat.table 0 operator_words) Rule.done
 rule Row.standard_builtin_type = eat (Eat.table 1 builtin_words) Rule.done
 -- <substitution> ::= St | Sa | Sb | Ss | Si | So | Sd (5.1.10)
 rule Row.well_known_component = eat (Eat.table 2 component_words) Rule.done
--- <ref-qualifier> ::= R | O (5.1.2)
+-- <ref-qualifier> ::= R | O (5.1.5.3)
 rule Row.ref_qualifier = eat (Eat.table 3 ref_qualifier_words) Rule.done
 -- H, before the prefix of a function with an explicit object parameter (5.1.2)
 rule Row.explicit_object_parameter = eat (Eat.table 4 explicit_object_words) Rule.done
@@ -299,7 +300,9 @@ rule Row.discriminator =
     · made Tag.Discriminator) Rule.done
 -- <template-param> ::= T_ | T <parameter-2 non-negative number> _ (5.1.5.8)
 rule Row.template_param = (w "T" · index · w "_" · made Tag.TemplateParam) Rule.done
--- <function-param> ::= fp <CV-qualifiers> [<number>] _ | fL <number> p <CV-qualifiers> [<number>] _ | fpT (5.1.5.9)
+-- <function-param> ::= fp <CV-qualifiers> [<number>] _ | fL <number> p <CV-qualifiers> [<number>] _
+-- | fp <CV-qualifiers> T | fL <number> p <CV-qualifiers> T (5.1.5.9)
+-- The number behind fL is kept as it is written, one less than the scopes between; 0 is kept for fp.
 rule Row.function_param =
     (w "f" · more 1 · (w "L" · commit · num10 // give Given.nought) · w "p" · r Row.cv_qualifiers
     · (w "T" · absent // present (index · w "_")) · made Tag.FunctionParam) Rule.done
@@ -387,8 +390,8 @@ rule Row.operator_name =
     // w "cv" · commit · (λ k. Rule.call true Row.type_handle k) · made Tag.OperatorNameConversion
     // w "li" · commit · r Row.source_name · made Tag.OperatorNameLiteral
     // w "v" · eat Eat.digit · r Row.source_name · made Tag.OperatorNameVendorExtension) Rule.done
--- <ctor-dtor-name> ::= C1 | C2 | C3 | CI1 <base class type> | CI2 <base class type> | D0 | D1
--- | D2, and 4 of each (5.1.4.3)
+-- <ctor-dtor-name> ::= C1 | C2 | C3 | CI1 <base class type> | CI2 <base class type> | D0 | D1 | D2 (5.1.4.3); and
+-- C4 | CI3 <base class type> | CI4 <base class type> | D4, which are compilers' additions
 rule Row.ctor_dtor_name =
     (more 1 · (w "CI" · commit · constructors (present t) // w "C" · commit · constructors absent
     // w "D0" · made Tag.CtorDtorNameDeletingDestructor // w "D1" · made Tag.CtorDtorNameCompleteDestructor
@@ -437,14 +440,14 @@ rule Row.bare_function_type = (vec1 t · made Tag.BareFunctionType) Rule.done
 rule Row.decltype =
     (w "D" · (w "t" · commit · e · w "E" · made Tag.DecltypeIdExpression
     // w "T" · e · w "E" · made Tag.DecltypeExpression)) Rule.done
--- <class-enum-type> ::= <name> | Ts <name> | Tu <name> | Te <name> (5.1.5)
+-- <class-enum-type> ::= <name> | Ts <name> | Tu <name> | Te <name> (5.1.5.4)
 rule Row.class_enum_type =
     (r Row.name · made Tag.ClassEnumTypeNamed
     // w "T" · (w "s" · commit · r Row.name · made Tag.ClassEnumTypeElaboratedStruct
     // w "u" · commit · r Row.name · made Tag.ClassEnumTypeElaboratedUnion
     // w "e" · r Row.name · made Tag.ClassEnumTypeElaboratedEnum)) Rule.done
 -- <array-type> ::= A <positive dimension number> _ <element type> | A <dimension expression> _ <element type>
--- | A _ <element type> (5.1.5)
+-- | A _ <element type> (5.1.5.5)
 rule Row.array_type =
     (w "A" · (num10 · commit · w "_" · t · made Tag.ArrayTypeDimensionNumber
     // e · commit · w "_" · t · made Tag.ArrayTypeDimensionExpression
@@ -453,7 +456,7 @@ rule Row.array_type =
 rule Row.vector_type =
     (w "Dv" · (num10 · commit · w "_" · t · made Tag.VectorTypeDimensionNumber
     // e · w "_" · t · made Tag.VectorTypeDimensionExpression)) Rule.done
--- <pointer-to-member-type> ::= M <class type> <member type> (5.1.5)
+-- <pointer-to-member-type> ::= M <class type> <member type> (5.1.5.6)
 rule Row.pointer_to_member_type = (w "M" · t · t · made Tag.PointerToMemberType) Rule.done
 -- <template-template-param> ::= <template-param> | <substitution> (5.1.5.8)
 rule Row.template_template_param_handle =

@@ -38,9 +38,9 @@ use Rattle.demangle_leaf_nodes.specs.declared.leaves.Substitution.TheVariants as
 use Rattle.demangle_leaf_nodes.specs.declared.leaves.PrefixHandle.{PrefixHandle}
 use Rattle.demangle_leaf_nodes.specs.declared.leaves.PrefixHandle.TheVariants as of_prefix_handle
 use Rattle.demangle_leaf_nodes.specs.declared.leaves.UnscopedTemplateNameHandle.{UnscopedTemplateNameHandle}
-use Rattle.demangle_leaf_nodes.specs.declared.leaves.UnscopedTemplateNameHandle.TheVariants as of_unscoped_template_name_handle
+use Rattle.demangle_leaf_nodes.specs.declared.leaves.UnscopedTemplateNameHandle.TheVariants as of_template_name_handle
 use Rattle.demangle_leaf_nodes.specs.declared.leaves.TemplateTemplateParamHandle.{TemplateTemplateParamHandle}
-use Rattle.demangle_leaf_nodes.specs.declared.leaves.TemplateTemplateParamHandle.TheVariants as of_template_template_param_handle
+use Rattle.demangle_leaf_nodes.specs.declared.leaves.TemplateTemplateParamHandle.TheVariants as of_param_handle
 use Rattle.demangle_leaf_nodes.specs.declared.leaves.UnresolvedTypeHandle.{UnresolvedTypeHandle}
 use Rattle.demangle_leaf_nodes.specs.declared.leaves.UnresolvedTypeHandle.TheVariants as of_unresolved_type_handle
 use Rattle.demangle_leaf_nodes.specs.declared.leaves.ParametricBuiltinType.{ParametricBuiltinType}
@@ -301,14 +301,14 @@ abbrev pub tree_of_prefix_handle : PrefixHandle → Core
 tree_of_prefix_handle x = node (tag_of_prefix_handle x) (parts_of_prefix_handle x) end
 
 abbrev pub tag_of_unscoped_template_name_handle : UnscopedTemplateNameHandle → Tag
-tag_of_unscoped_template_name_handle (of_unscoped_template_name_handle.WellKnown _) = Tag.WellKnown
-tag_of_unscoped_template_name_handle (of_unscoped_template_name_handle.BackReference _) = Tag.BackReference
-tag_of_unscoped_template_name_handle (of_unscoped_template_name_handle.NonSubstitution _) = Tag.NonSubstitution
+tag_of_unscoped_template_name_handle (of_template_name_handle.WellKnown _) = Tag.WellKnown
+tag_of_unscoped_template_name_handle (of_template_name_handle.BackReference _) = Tag.BackReference
+tag_of_unscoped_template_name_handle (of_template_name_handle.NonSubstitution _) = Tag.NonSubstitution
 
 abbrev pub parts_of_unscoped_template_name_handle : UnscopedTemplateNameHandle → Core
-parts_of_unscoped_template_name_handle (of_unscoped_template_name_handle.WellKnown a) = tree_of_well_known_component a
-parts_of_unscoped_template_name_handle (of_unscoped_template_name_handle.BackReference a) = ref Which.N a end
-parts_of_unscoped_template_name_handle (of_unscoped_template_name_handle.NonSubstitution a) =
+parts_of_unscoped_template_name_handle (of_template_name_handle.WellKnown a) = tree_of_well_known_component a
+parts_of_unscoped_template_name_handle (of_template_name_handle.BackReference a) = ref Which.N a end
+parts_of_unscoped_template_name_handle (of_template_name_handle.NonSubstitution a) =
     parts_of_non_substitution a
 
 abbrev pub tree_of_unscoped_template_name_handle : UnscopedTemplateNameHandle → Core
@@ -316,12 +316,12 @@ tree_of_unscoped_template_name_handle x = node (tag_of_unscoped_template_name_ha
     (parts_of_unscoped_template_name_handle x) end
 
 abbrev pub tag_of_template_template_param_handle : TemplateTemplateParamHandle → Tag
-tag_of_template_template_param_handle (of_template_template_param_handle.WellKnown _) = Tag.WellKnown
-tag_of_template_template_param_handle (of_template_template_param_handle.BackReference _) = Tag.BackReference
+tag_of_template_template_param_handle (of_param_handle.WellKnown _) = Tag.WellKnown
+tag_of_template_template_param_handle (of_param_handle.BackReference _) = Tag.BackReference
 
 abbrev pub parts_of_template_template_param_handle : TemplateTemplateParamHandle → Core
-parts_of_template_template_param_handle (of_template_template_param_handle.WellKnown a) = tree_of_well_known_component a
-parts_of_template_template_param_handle (of_template_template_param_handle.BackReference a) = ref Which.N a end
+parts_of_template_template_param_handle (of_param_handle.WellKnown a) = tree_of_well_known_component a
+parts_of_template_template_param_handle (of_param_handle.BackReference a) = ref Which.N a end
 
 abbrev pub tree_of_template_template_param_handle : TemplateTemplateParamHandle → Core
 tree_of_template_template_param_handle x = node (tag_of_template_template_param_handle x)

@@ -8,13 +8,17 @@ ghost use Rattle.demangle_leaf_nodes.specs.TreeLeaves.{tree_of_leaf_name};
 use crate::leaves::{ClosureTypeName, SourceName, UnnamedTypeName};
 use demangle_vocab::WellKnownComponent;
 
-/// The last identifier of a name, which a constructor, a destructor or a member function takes over from its class. The
+/// The last identifier in a name, which the constructors and destructors of a class of this name have too. The
 /// original's type of this name.
 #[derive(Clone, Copy, Debug)]
 pub enum LeafName<'a> {
+    /// `A` of `a::A`: `1A`.
     SourceName(&'a SourceName),
+    /// The last identifier of an abbreviated name, `string` of `std::string`: `Ss`.
     WellKnownComponent(&'a WellKnownComponent),
+    /// `{lambda(int)#1}`: `UliE_`.
     Closure(&'a ClosureTypeName),
+    /// `{unnamed type#1}`: `Ut_`.
     UnnamedType(&'a UnnamedTypeName),
 }
 

@@ -3,8 +3,8 @@
 //!
 //! A place is the index of its first byte and the index behind its last byte, both in the input that was read.
 //!
-//! Beside each type stands its production, in the BNF of the Itanium C++ ABI. An example is C++ and the bytes that are
-//! read as this node.
+//! Beside each type stands its production, in the BNF of the Itanium C++ ABI. An example shows C++ and the bytes that
+//! are read as this node.
 
 ghost use Rattle.std.specs.Prelude.{◌≡◌, false};
 
@@ -13,15 +13,16 @@ use demangle_vocab::{
     WellKnownComponent,
 };
 
-/// A number of the mangled name, from -(2^63 - 1) to 2^63 - 1. ABI section 5.1.2. -8 is `n8`.
+/// A number in a mangled name, from -(2^63 - 1) to 2^63 - 1. ABI section 5.1.2. -8 is `n8`.
 ///
 /// ```text
 /// <number> ::= [n] <non-negative decimal integer>
 /// ```
 pub type Number = isize;
 
-/// An entry of the second list of the substitution table, by its position there. No production has it: the name of a
-/// template with arguments is kept there where no number may refer to it. The original's type of this name.
+/// An entry of the second list of the substitution table, by its position there. No production has it, since no number
+/// refers to that list. It holds the last prefix of a nested name, which is the whole name; the name of a member
+/// template; and the width of a `_BitInt` type, where that is an expression. The original's type of this name.
 #[derive(Clone, Copy, Debug)]
 pub struct NonSubstitution(pub usize);
 
@@ -101,7 +102,7 @@ pub struct SourceName(pub Identifier);
 #[derive(Clone, Copy, Debug)]
 pub struct AbiTag(pub SourceName);
 
-/// The ABI tags of a name, in the order that they are written in, `[abi:a][abi:b]`: `B1aB1b`. ABI section 5.1.2.
+/// The ABI tags of a name, in the order in which they are written, `[abi:a][abi:b]`: `B1aB1b`. ABI section 5.1.2.
 ///
 /// ```text
 /// <abi-tags> ::= <abi-tag>*
@@ -131,7 +132,7 @@ pub struct CloneSuffix(pub CloneTypeIdentifier, pub Vec<isize>);
 /// ```text
 /// <CV-qualifiers> ::= [r] [V] [K]
 /// ```
-#[derive(Clone, Copy, Debug, Hash)]
+#[derive(Clone, Copy, Debug)]
 pub struct CvQualifiers {
     pub restrict: bool,
     pub volatile: bool,
@@ -174,20 +175,21 @@ pub struct VOffset(pub isize, pub isize);
 /// ```
 #[derive(Clone, Copy, Debug)]
 pub enum CallOffset {
-    /// By a constant, as to a base that isn't virtual: `hn8_`.
+    /// By a constant, as for a base that isn't virtual: `hn8_`.
     NonVirtual(NvOffset),
-    /// By a constant and a number of the virtual table, as to a virtual base: `v0_n24_`.
+    /// By a constant and a number in the virtual table, as for a virtual base: `v0_n24_`.
     Virtual(VOffset),
 }
 
-/// A parameter of the function that is declared: how many scopes lie between, its qualifiers, and its position; `None`
-/// is `this`. ABI section 5.1.5.9. The first is `fp_`, the second `fp0_`, and `this` is `fpT`.
+/// A parameter of the function that is declared, or of one around it: the number behind `fL` as it is written, one
+/// less than the scopes between, and 0 for `fp`; its qualifiers; and its position, where `None` is `this`. ABI section
+/// 5.1.5.9. The first is `fp_`, the second `fp0_`, and `this` is `fpT`.
 ///
 /// ```text
 /// <function-param> ::= fp <CV-qualifiers> _ | fp <CV-qualifiers> <parameter-2 non-negative number> _
 ///                  ::= fL <L-1 non-negative number> p <CV-qualifiers> _
 ///                  ::= fL <L-1 non-negative number> p <CV-qualifiers> <parameter-2 non-negative number> _
-///                  ::= fpT
+///                  ::= fp <CV-qualifiers> T | fL <number> p <CV-qualifiers> T
 /// ```
 #[derive(Clone, Copy, Debug)]
 pub struct FunctionParam(pub usize, pub CvQualifiers, pub Option<usize>);
@@ -217,7 +219,7 @@ pub struct UnnamedTypeName(pub Option<usize>);
 /// ```
 #[derive(Clone, Copy, Debug)]
 pub enum Substitution {
-    /// An entry of the table's first list, by its position, which must be there. The first is `S_`, the second `S0_`.
+    /// An entry of the table's first list, by its position; it must be there. The first is `S_`, the second `S0_`.
     BackReference(usize),
     /// `std::string`: `Ss`.
     WellKnown(WellKnownComponent),
@@ -267,7 +269,7 @@ pub enum TemplateTemplateParamHandle {
     BackReference(usize),
 }
 
-/// A reference to a type that is known by a template parameter or a `decltype` alone. ABI section 5.1.6.
+/// A reference to a type that is given by a template parameter or a `decltype` alone. ABI section 5.1.6.
 ///
 /// ```text
 /// <unresolved-type> ::= <template-param> [<template-args>] | <decltype> | <substitution>
@@ -280,7 +282,7 @@ pub enum UnresolvedTypeHandle {
     BackReference(usize),
 }
 
-/// A reference to a type, or a type that takes no entry of the table. ABI section 5.1.5; the other types stand in the
+/// A reference to a type, or a type that has no entry in the table. ABI section 5.1.5; the other types stand in the
 /// table.
 ///
 /// ```text
@@ -314,11 +316,11 @@ pub enum BuiltinType {
     Standard(StandardBuiltinType),
     /// `_Float64`: `DF64_`.
     Parametric(ParametricBuiltinType),
-    /// A type of a compiler's own, `__bf16`: `u6__bf16`.
+    /// A compiler's own type, `__bf16`: `u6__bf16`.
     Extension(SourceName),
 }
 
-/// A builtin type under qualifiers. No reading makes one: a qualified builtin type takes an entry of the table. The
+/// A builtin type under qualifiers. No reading makes one: a qualified builtin type has an entry in the table. The
 /// original's type of this name.
 #[derive(Clone, Copy, Debug)]
 pub struct QualifiedBuiltin(pub CvQualifiers, pub BuiltinType);
@@ -355,7 +357,7 @@ pub enum ParametricBuiltinType {
 /// ```
 #[derive(Clone, Copy, Debug)]
 pub enum OperatorName {
-    /// One that is a word of the table, `operator+`: `pl`.
+    /// A word of the table of operators, `operator+`: `pl`.
     Simple(SimpleOperatorName),
     /// A cast in an expression. No reading makes one: a cast is a conversion expression.
     Cast(TypeHandle),
@@ -363,16 +365,16 @@ pub enum OperatorName {
     Conversion(TypeHandle),
     /// The suffix of a literal, `operator ""_w`: `li2_w`.
     Literal(SourceName),
-    /// One of a compiler's own, with the number of its operands, from 0 to 9, `operator foo`: `v23foo`.
+    /// A compiler's own operator, with the number of its operands, from 0 to 9, `operator foo`: `v23foo`.
     VendorExtension(u8, SourceName),
 }
 
-/// A constructor, with the type that it is inherited from, or a destructor. ABI section 5.1.4.3. One class has several
-/// of each, as one may construct a whole object, or the part of it that is a base.
+/// A constructor, with the type that it is inherited from, or a destructor. ABI section 5.1.4.3. A class has several
+/// of each: one constructs a whole object, another only the part of an object that is a base.
 ///
 /// ```text
-/// <ctor-dtor-name> ::= C1 | C2 | C3 | C4 | D0 | D1 | D2 | D4
-///                  ::= CI1 <base class type> | CI2 <base class type> | CI3 <base class type> | CI4 <base class type>
+/// <ctor-dtor-name> ::= C1 | C2 | C3 | CI1 <base class type> | CI2 <base class type> | D0 | D1 | D2
+///                  ::= C4 | CI3 <base class type> | CI4 <base class type> | D4   # additions of compilers
 /// ```
 #[derive(Clone, Copy, Debug)]
 pub enum CtorDtorName {
@@ -382,7 +384,7 @@ pub enum CtorDtorName {
     BaseConstructor(Option<TypeHandle>),
     /// Allocates a whole object and constructs it: `C3`.
     CompleteAllocatingConstructor(Option<TypeHandle>),
-    /// One body for both, as compilers make it beside the others: `C4`.
+    /// One body for both, which compilers make in addition to the others: `C4`.
     MaybeInChargeConstructor(Option<TypeHandle>),
     /// Destroys a whole object and frees it: `D0`.
     DeletingDestructor,
@@ -390,7 +392,7 @@ pub enum CtorDtorName {
     CompleteDestructor,
     /// Destroys a base of an object: `D2`.
     BaseDestructor,
-    /// One body for all, as compilers make it beside the others: `D4`.
+    /// One body for all, which compilers make in addition to the others: `D4`.
     MaybeInChargeDestructor,
 }
 
@@ -471,8 +473,8 @@ pub enum UnscopedName {
 #[derive(Drop, Debug)]
 pub struct UnscopedTemplateName(pub UnscopedName);
 
-/// A name inside classes or namespaces. The explicit-object forms are those of a member function with a parameter
-/// `this`. ABI section 5.1.2.
+/// A name inside classes or namespaces. The explicit-object forms are those of a member function that declares its
+/// object as its first parameter, with `this` before it. ABI section 5.1.2.
 ///
 /// ```text
 /// <nested-name> ::= N [<CV-qualifiers>] [<ref-qualifier>] <prefix> <unqualified-name> E

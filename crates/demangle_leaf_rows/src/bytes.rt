@@ -16,7 +16,9 @@ use demangle_text::{Error, IndexStr, Result, consume, identifier_len};
 /// The names of which every byte is of a class.
 #[derive(Clone, Copy)]
 pub enum NameClass {
+    /// The first word of a clone's suffix: ASCII letters, digits, `$` and `_`.
     CloneType,
+    /// A component of a Java resource, up to its escape: every byte but `$`.
     Resource,
 }
 

@@ -32,7 +32,7 @@ impl ReadLeaf for Number {
     }
 }
 
-/// The number of a component, of which the next is a number too. ABI section 5.1.10.
+/// The number of a component, below 2^63, so that 1 can be added. ABI section 5.1.10.
 ///
 /// ```text
 /// <seq-id> ::= <0-9A-Z>+
@@ -47,11 +47,7 @@ pub fn seq_id<'b>(depth: Depth, input: IndexStr<'b>) -> Result<(SeqId, IndexStr<
     Ok((SeqId(number), rest))
 }
 
-/// The number of a component, as it is written. ABI section 5.1.10.
-///
-/// ```text
-/// <seq-id> ::= <0-9A-Z>+
-/// ```
+/// The number of a component, as `seq_id` reads it.
 impl ReadLeaf for SeqId {
     ghost leaf_row = { Row.seq_id };
 

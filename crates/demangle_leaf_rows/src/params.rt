@@ -33,13 +33,13 @@ impl ReadLeaf for TemplateParam {
     }
 }
 
-/// A parameter of the function that is declared. ABI section 5.1.5.9.
+/// A parameter of the function that is declared, or of one around it. ABI section 5.1.5.9.
 ///
 /// ```text
 /// <function-param> ::= fp <CV-qualifiers> _ | fp <CV-qualifiers> <parameter-2 non-negative number> _
 ///                  ::= fL <L-1 non-negative number> p <CV-qualifiers> _
 ///                  ::= fL <L-1 non-negative number> p <CV-qualifiers> <parameter-2 non-negative number> _
-///                  ::= fpT
+///                  ::= fp <CV-qualifiers> T | fL <number> p <CV-qualifiers> T
 /// ```
 impl ReadLeaf for FunctionParam {
     ghost leaf_row = { Row.function_param };

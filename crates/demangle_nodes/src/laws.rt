@@ -7,7 +7,7 @@ pub fn equality_leaves_places_out()
     ensures { EqualityLeavesPlacesOut }
 {}
 
-/// Argument lists of one tree stand at one place. A copy has the tree of what is copied, and so its place.
+/// Argument lists with the same tree stand at the same place. A copy has the tree of what is copied, and so its place.
 pub fn trees_keep_places()
     ensures { TreesKeepPlaces }
 {}

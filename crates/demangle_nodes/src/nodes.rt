@@ -1,10 +1,10 @@
 //! The node types that hold each other: whole names, expressions and template arguments.
 //!
-//! A type by value inside types multiplies in the proofs, so a field is boxed wherever one of these types would
-//! otherwise grow too large.
+//! A type that others hold by value is unfolded in the proofs wherever they are, so a field is boxed where one of
+//! these types would otherwise grow too large.
 //!
-//! Beside each type stands its production, in the BNF of the Itanium C++ ABI. An example is C++ and the bytes that are
-//! read as this node. In it `g` is an object or a function, `T` the first template parameter, and `fp` the first
+//! Beside each type stands its production, in the BNF of the Itanium C++ ABI. An example shows C++ and the bytes that
+//! are read as this node. In it `g` is an object or a function, `T` the first template parameter, and `fp` the first
 //! parameter of the function.
 
 use demangle_leaf_nodes::{
@@ -29,7 +29,7 @@ pub enum MangledName {
     /// A function, a variable or what the compiler makes of one, `f()`: `_Z1fv`; its copy, `f() [clone .cold]`:
     /// `_Z1fv.cold`.
     Encoding(Encoding, Vec<CloneSuffix>),
-    /// The function that a block of Apple's is made into, of the block in `f()`: `___Z1fv_block_invoke`.
+    /// The function that one of Apple's blocks is compiled to, that of the block in `f()`: `___Z1fv_block_invoke`.
     BlockInvoke(Encoding, Option<isize>),
     /// A type alone, `int*`: `Pi`.
     TopLevelType(TypeHandle),
@@ -86,7 +86,7 @@ pub enum Name {
     Local(LocalName),
 }
 
-/// The arguments of a template, and its `place`: the index of the `I` before them, which equality leaves out. ABI
+/// The arguments of a template, and their place: the index of the `I` before them, which equality leaves out. ABI
 /// section 5.1.2. `<int, char>` is `IicE`.
 ///
 /// ```text
@@ -133,8 +133,8 @@ pub struct MemberName(pub Box<Name>);
 #[derive(Drop, Debug)]
 pub struct Initializer(pub Vec<Expression>);
 
-/// An expression. ABI section 5.1.6. An operator of a compiler's own has as many operands as its digit says, and the
-/// suffix of a literal has one.
+/// An expression. ABI section 5.1.6. A compiler's own operator has as many operands as its digit says, and the suffix
+/// of a literal has one.
 ///
 /// ```text
 /// <expression> ::= <unary operator-name> <expression>
@@ -181,7 +181,7 @@ pub enum Expression {
     ConversionBraced(TypeHandle, Vec<Expression>),
     /// A list in braces, `{1, 2}`: `ilLi1ELi2EE`.
     BracedInitList(Vec<Expression>),
-    /// `new int(1)`: `nw_ipiLi1EE`; with an argument of its placement, `new (g) int`: `nw1g_iE`.
+    /// `new int(1)`: `nw_ipiLi1EE`; with a placement argument, `new (g) int`: `nw1g_iE`.
     New(Vec<Expression>, TypeHandle, Option<Initializer>),
     /// `::new int`: `gsnw_iE`.
     GlobalNew(Vec<Expression>, TypeHandle, Option<Initializer>),
@@ -229,13 +229,13 @@ pub enum Expression {
     Member(Box<Expression>, MemberName),
     /// A member behind a pointer, `g->x`: `pt1g1x`.
     DerefMember(Box<Expression>, MemberName),
-    /// What a pointer to a member names in an object, `g.*h`: `ds1g1h`.
+    /// The member of an object that a pointer to a member selects, `g.*h`: `ds1g1h`.
     PointerToMember(Box<Expression>, Box<Expression>),
-    /// How many arguments a template's pack has, `sizeof...(T)`: `sZT_`.
+    /// How many arguments a pack of template parameters has, `sizeof...(T)`: `sZT_`.
     SizeofTemplatePack(TemplateParam),
-    /// How many arguments a function's pack has, of its first parameter: `sZfp_`.
+    /// How many arguments a pack of function parameters has, that of the first parameter: `sZfp_`.
     SizeofFunctionPack(FunctionParam),
-    /// How many arguments a pack has that an alias template took, `sizeof...(int, char)`: `sPicE`.
+    /// How many arguments a pack has that was handed to an alias template, `sizeof...(int, char)`: `sPicE`.
     SizeofCapturedTemplatePack(Vec<TemplateArg>),
     /// A pattern that is repeated for each element of a pack, `fp...`: `spfp_`.
     PackExpansion(Box<Expression>),
@@ -337,7 +337,7 @@ pub enum ExprPrimary {
     External(Box<MangledName>),
 }
 
-/// An entity inside a function, or a string literal of it, where there is no name. ABI section 5.1.7.
+/// An entity inside a function, or, where there is no name, a string literal of the function. ABI section 5.1.7.
 ///
 /// ```text
 /// <local-name> ::= Z <function encoding> E <entity name> [<discriminator>]
@@ -349,12 +349,12 @@ pub enum ExprPrimary {
 pub enum LocalName {
     /// `x` of `f()`: `Z1fvE1x`; a string literal of it: `Z1fvEs`.
     Relative(Box<Encoding>, Option<Box<Name>>, Option<Discriminator>),
-    /// An entity in the default argument of a parameter, the last where no number is written: `Z1fiEd_UlvE_`.
+    /// An entity in the default argument of a parameter, of the last one where no number is written: `Z1fiEd_UlvE_`.
     Default(Box<Encoding>, Option<isize>, Box<Name>),
 }
 
-/// What the compiler makes beside functions and variables. ABI section 5.1.4; Java's resources are an addition of a
-/// compiler's.
+/// What the compiler makes besides functions and variables. ABI section 5.1.4; Java's resources are an addition of one
+/// compiler.
 ///
 /// ```text
 /// <special-name> ::= TV <type> | TT <type> | TI <type> | TS <type> | TF <type>
@@ -363,7 +363,7 @@ pub enum LocalName {
 ///                ::= TH <name> | TW <name>
 ///                ::= GV <object name> | GR <object name> _ | GR <object name> <seq-id> _
 ///                ::= Gr <length number> _ <resource-name>*
-///                ::= GTt <encoding> | GTn <encoding>
+///                ::= GT <any byte but n> <encoding> | GTn <encoding>
 /// ```
 #[cycle(nodes)]
 #[derive(Drop, Debug)]
@@ -380,9 +380,9 @@ pub enum SpecialName {
     VirtualOverrideThunk(CallOffset, Box<Encoding>),
     /// One that also changes the pointer or reference that `A::f()` returns: `Tchn8_h8_N1A1fEv`.
     VirtualOverrideThunkCovariant(CallOffset, CallOffset, Box<Encoding>),
-    /// Whether the static variable `x` of `f()` is initialized: `GVZ1fvE1x`.
+    /// The guard that tells whether the static variable `x` of `f()` is initialized: `GVZ1fvE1x`.
     Guard(Name),
-    /// A temporary that the reference `x` is bound to, by its number, the first and the second: `GR1x_` and `GR1x0_`.
+    /// A temporary that the reference `x` is bound to, and its number; the first and the second: `GR1x_` and `GR1x0_`.
     GuardTemporary(Name, usize),
     /// The virtual table of `B` while it is constructed as a part of `A`, at offset 8: `TC1A8_1B`.
     ConstructionVtable(TypeHandle, usize, TypeHandle),
@@ -390,18 +390,18 @@ pub enum SpecialName {
     TypeinfoFunction(TypeHandle),
     /// What initializes the `thread_local` variable `x`: `TH1x`.
     TlsInit(Name),
-    /// What a file calls that reads the `thread_local` variable `x` of another: `TW1x`.
+    /// What a file calls to read the `thread_local` variable `x` of another file: `TW1x`.
     TlsWrapper(Name),
     /// A resource of a Java program, `java/a.png`: `Gr13_java$Sa$_png`.
     JavaResource(Vec<ResourceName>),
-    /// The copy of `f()` that runs inside of a transaction: `GTt1fv`.
+    /// The copy of `f()` that runs inside a transaction, as compilers write it: `GTt1fv`.
     TransactionClone(Box<Encoding>),
-    /// The copy of `f()` that runs outside of transactions: `GTn1fv`.
+    /// The copy of `f()` that runs outside transactions: `GTn1fv`.
     NonTransactionClone(Box<Encoding>),
 }
 
-/// A part of an object as a template argument: its type, the object, and the offset, the `int` at offset 4 of `g`:
-/// `iL_Z1gE4E`. ABI section 5.1.6.
+/// A part of an object as a template argument: its type, the object, and its offset there. ABI section 5.1.6. The
+/// `int` at offset 4 of `g` is `iL_Z1gE4E`.
 ///
 /// ```text
 /// <subobject-expr> ::= <referent type> <expression> [<offset number>] E

@@ -1,5 +1,5 @@
--- Numbers of the grammar (ABI section 5.1.2, <number> and <seq-id>): in base 10 of `0` to `9`, in base 36 of `0` to `9`
--- and `A` to `Z`.
+-- Numbers of the grammar (ABI sections 5.1.2, <number>, and 5.1.10, <seq-id>): in base 10 of `0` to `9`, in base 36 of
+-- `0` to `9` and `A` to `Z`.
 use Rattle.std.specs.Prelude.{ℕ, ℤ, pos, neg_ℤ, ◌+◌, ◌-◌, ◌*◌, ◌^◌, Bool, true, false, ◌&&◌, ◌||◌, ◌==◌, nat_lt, List}
 use Rattle.std.specs.Prelude.{[], ◌∷◌, length, take, if◌then◌else◌, Result}
 use Rattle.demangle_text.specs.Kind.{End, Text, Over, Kind}

@@ -1,4 +1,4 @@
-//! Numbers of the grammar (ABI section 5.1.2, <number> and <seq-id>).
+//! Numbers of the grammar (ABI sections 5.1.2, <number>, and 5.1.10, <seq-id>).
 
 ghost use Rattle.std.specs.Prelude.{◌≡◌, ◌≤◌, ◌^◌, ◌<◌, ◌⊎◌, ◌+◌, ◌*◌, IfOk, IfErr, OnOk, Option, Some, None};
 ghost use Rattle.std.specs.Prelude.{MatchOption, if◌then◌else◌, length, IsTrue, ◌↔◌};
@@ -87,8 +87,7 @@ pub fn parse_unsigned<'a>(base: u32, input: IndexStr<'a>) -> Result<(usize, Inde
 }
 
 /// A number in base 10 or 36, with `n` before it where it is negative and signs are allowed, and the rest. Refused as
-/// by
-/// `parse_unsigned`; nothing left behind `n` is `UnexpectedEnd`.
+/// by `parse_unsigned`; nothing left behind `n` is `UnexpectedEnd`.
 #[tactic(auto, unfolding(crate::specs::Number::natural_from, crate::specs::Number::number_from))]
 pub fn parse_number<'a>(
     base: u32,

@@ -1,4 +1,4 @@
-//! The leaf name of a name or a type: the last identifier of it, which its constructors and destructors bear.
+//! The leaf name of a name or a type: the last identifier in it, which its constructors and destructors have too.
 //!
 //! Each node answers in one step, or refers to a component that has the same answer.
 
@@ -278,14 +278,14 @@ impl<'a> LookUp<'a> for LeafNames {
     }
 }
 
-/// The leaf name of a name or a type: the last identifier of it, which its constructors and destructors bear. The
+/// The leaf name of a name or a type: the last identifier in it, which its constructors and destructors have too. The
 /// original's trait of this name.
 pub trait GetLeafName<'a> {
     /// The tree of what is looked at.
     ghost tree: { Self → Core };
 
-    /// The leaf name, found in the components that this refers to where it isn't here; `None`
-    /// exactly where there is none, or where the references go round.
+    /// The leaf name, found in the components that this refers to where it isn't here; `None` exactly where there is
+    /// none, or where the references go round in a circle.
     fn get_leaf_name(&'a self, subs: &'a SubstitutionTable) -> Option<LeafName<'a>>
         ensures { option_map tree_of_leaf_name result ≡ leaf_name (table_of subs.now) (tree self.now) };
 }

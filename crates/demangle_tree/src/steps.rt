@@ -10,8 +10,8 @@ ghost use Rattle.demangle_tree.specs.Steps.{next_of};
 use demangle_entries::Substitutable;
 use demangle_table::SubstitutionTable;
 
-/// Where a look-up comes to in one node: to its answer, to an end without one, or to a component, whose answer is the
-/// answer.
+/// What a look-up finds in one node: its answer, that there is none, or the position of a component, whose answer is
+/// then that of the look-up.
 #[derive(Clone, Copy)]
 pub(crate) enum Step<A> {
     Answer(A),
@@ -41,15 +41,16 @@ impl<A: Copy> Step<A> {
     }
 }
 
-/// A look-up: what it answers with, and where it comes to in a component.
+/// A look-up: what it answers with, and what it finds in a component.
 pub(crate) trait LookUp<'a> {
     type Answer: Copy;
 
     /// The tree of an answer.
     ghost tree: { Self.Answer → Core };
-    /// Where its definition comes to in the tree of a component.
+    /// What its definition finds in the tree of a component.
     ghost step: { Core → Next Core };
 
+    /// What it finds in a component.
     fn step_of(component: &'a Substitutable) -> Step<Self::Answer>
         ensures { next_of tree result ≡ step (tree_of_substitutable component.now) };
 }

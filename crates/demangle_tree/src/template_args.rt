@@ -98,7 +98,7 @@ fn args_of_type_node<'a>(node: &'a TypeNode) -> Step<&'a TemplateArgs>
     }
 }
 
-/// The look-up of arguments for a prefix: the components that it asks must be prefixes.
+/// The look-up of arguments for a prefix: the components that it goes through must be prefixes.
 struct PrefixArgs;
 
 impl<'a> LookUp<'a> for PrefixArgs {
@@ -116,7 +116,7 @@ impl<'a> LookUp<'a> for PrefixArgs {
     }
 }
 
-/// The look-up of arguments for a type: the components that it asks must be types.
+/// The look-up of arguments for a type: the components that it goes through must be types.
 struct TypeArgs;
 
 impl<'a> LookUp<'a> for TypeArgs {
@@ -141,8 +141,8 @@ pub trait GetTemplateArgs {
     /// Whether it is a prefix or a type.
     ghost sort: { Sort };
 
-    /// The arguments, found in the components that this refers to where they aren't here; `None`
-    /// exactly where there are none, or where the references go round.
+    /// The arguments, found in the components that this refers to where they aren't here; `None` exactly where there
+    /// are none, or where the references go round in a circle.
     fn get_template_args<'a>(&'a self, subs: &'a SubstitutionTable) -> Option<&'a TemplateArgs>
         ensures { option_map tree_of_args result ≡ template_args sort (table_of subs.now) (tree self.now) };
 }

@@ -1,4 +1,5 @@
-//! Each word of each table against the ABI's own lists, in the order of these, and what no clause says.
+//! Each word of each table against a second listing: the words of the ABI that the original reads, with its texts. And
+//! what no clause says.
 
 use crate::{
     ExplicitObjectParameter, RefQualifier, SimpleOperatorName, StandardBuiltinType,
@@ -7,7 +8,7 @@ use crate::{
 use demangle_text::{Error, IndexStr, Result};
 use std::test::Fail;
 
-/// The operators of the ABI, section 5.1.3.
+/// The operators of the ABI, section 5.1.3, that the original reads: word, text, number of operands.
 const OPERATORS: [(&str, &str, u8); 48] = [
     ("nw", "new", 3),
     ("na", "new[]", 3),
@@ -59,8 +60,8 @@ const OPERATORS: [(&str, &str, u8); 48] = [
     ("qu", "?:", 3),
 ];
 
-/// The builtin types of the ABI, section 5.1.5.2, that are one word. `DF16b` stands there with `DF`, and the
-/// fixed-point types by their two parts.
+/// The builtin types of the ABI, section 5.1.5.2, that are one word and that the original reads: word, text. The ABI
+/// has `DF16b` with `DF`, and the fixed-point types by their two parts.
 const BUILTIN_TYPES: [(&str, &str); 56] = [
     ("v", "void"),
     ("w", "wchar_t"),
@@ -120,7 +121,7 @@ const BUILTIN_TYPES: [(&str, &str); 56] = [
     ("Dn", "std::nullptr_t"),
 ];
 
-/// The abbreviations of the ABI, section 5.1.10, and the names of their constructors.
+/// The abbreviations of the ABI, section 5.1.10, that the original reads: word, text, and the constructors' name.
 const COMPONENTS: [(&str, &str, Option<&str>); 7] = [
     ("St", "std", None),
     ("Sa", "std::allocator", Some("allocator")),
@@ -140,7 +141,7 @@ const COMPONENTS: [(&str, &str, Option<&str>); 7] = [
 ];
 
 #[test]
-fn operators_are_those_of_the_abi(rt: HostRuntime) -> std::result::Result<(), Fail> {
+fn operators_are_as_listed(rt: HostRuntime) -> std::result::Result<(), Fail> {
     for (word, text, arity) in OPERATORS {
         let (operator, rest) = SimpleOperatorName::read_word(IndexStr::new(word.as_bytes()))?;
         assert!(rt; rest.is_empty(), "at {word}");
@@ -159,7 +160,7 @@ fn operators_are_those_of_the_abi(rt: HostRuntime) -> std::result::Result<(), Fa
 }
 
 #[test]
-fn builtin_types_are_those_of_the_abi(rt: HostRuntime) -> std::result::Result<(), Fail> {
+fn builtin_types_are_as_listed(rt: HostRuntime) -> std::result::Result<(), Fail> {
     for (word, text) in BUILTIN_TYPES {
         let (builtin, rest) = StandardBuiltinType::read_word(IndexStr::new(word.as_bytes()))?;
         assert!(rt; rest.is_empty(), "at {word}");
@@ -177,7 +178,7 @@ fn builtin_types_are_those_of_the_abi(rt: HostRuntime) -> std::result::Result<()
 }
 
 #[test]
-fn components_are_those_of_the_abi(rt: HostRuntime) -> std::result::Result<(), Fail> {
+fn components_are_as_listed(rt: HostRuntime) -> std::result::Result<(), Fail> {
     for (word, text, leaf) in COMPONENTS {
         let (component, rest) = WellKnownComponent::read_word(IndexStr::new(word.as_bytes()))?;
         assert!(rt; rest.is_empty(), "at {word}");
@@ -193,7 +194,7 @@ fn components_are_those_of_the_abi(rt: HostRuntime) -> std::result::Result<(), F
 }
 
 #[test]
-fn qualifiers_are_those_of_the_abi(rt: HostRuntime) -> std::result::Result<(), Fail> {
+fn qualifiers_are_as_listed(rt: HostRuntime) -> std::result::Result<(), Fail> {
     let (lvalue, rest) = RefQualifier::read_word(IndexStr::new(b"RO"))?;
     let (rvalue, rest) = RefQualifier::read_word(rest)?;
     assert!(rt; rest.is_empty());
