@@ -193,12 +193,12 @@ pub fn grown<'b, X: Discard>(
 /// back in each case.
 pub fn looked_behind<'b, X: Discard>(
     subs: &mut SubstitutionTable,
-    mark: (usize, usize),
+    before: (usize, usize),
     answer: Result<(X, IndexStr<'b>)>,
 ) -> Result<Option<IndexStr<'b>>>
-    ensures { LooksBehind answer.entry mark result (table_of subs.old) (table_of subs.new) }
+    ensures { LooksBehind answer.entry before result (table_of subs.old) (table_of subs.new) }
 {
-    subs.cut_back(mark);
+    subs.cut_back(before);
     match passed(answer)? {
         Ok((x, rest)) => {
             x.discard();

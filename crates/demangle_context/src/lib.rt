@@ -9,8 +9,6 @@ mod inner_items;
 mod listener;
 mod options;
 mod steps;
-#[cfg(test)]
-mod tests;
 mod text_sink;
 mod trouble;
 

@@ -27,5 +27,3 @@ pub use readers::{
     read_unnamed_type_name, read_v_offset,
 };
 
-#[cfg(test)]
-mod tests;

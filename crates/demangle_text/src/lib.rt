@@ -8,8 +8,6 @@ mod index_str;
 mod laws;
 mod number;
 mod options;
-#[cfg(test)]
-mod tests;
 mod word;
 
 pub use error::{Error, Result};

@@ -7,8 +7,6 @@ mod builtin;
 mod component;
 mod operator;
 mod qualifier;
-#[cfg(test)]
-mod tests;
 
 pub use apart::{no_word_is_a_prefix, the_word_at_the_front_is_read};
 pub use builtin::StandardBuiltinType;

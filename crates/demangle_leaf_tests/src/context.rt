@@ -3,7 +3,7 @@
 ghost use Rattle.std.specs.Prelude.{None, pos};
 ghost use Rattle.demangle_core.specs.Core.{number, end};
 
-use crate::{
+use demangle_context::{
     Context, DemangleError, DemangleNodeType, DemangleOptions, DemangleWrite, InnerItems,
     InnerNode, SinkFault, TextSink,
 };

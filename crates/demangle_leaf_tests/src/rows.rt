@@ -1,16 +1,16 @@
 //! What no clause says: answers that come from outside, and that each call is met by some input and, with ample memory,
 //! succeeds.
 
-use crate::{
-    Depth, ParseContext, read_abi_tag, read_abi_tags, read_call_offset, read_clone_suffix,
-    read_clone_type_identifier, read_cv_qualifiers, read_discriminator, read_function_param,
-    read_identifier, read_number, read_nv_offset, read_resource_name, read_seq_id,
-    read_source_name, read_template_param, read_unnamed_type_name, read_v_offset, substitution,
-};
 use demangle_leaf_nodes::{
     AbiTag, CallOffset, CloneTypeIdentifier, CvQualifiers, Discriminator, FunctionParam,
     Identifier, NvOffset, ResourceName, SeqId, SourceName, Substitution, TemplateParam,
     UnnamedTypeName, VOffset,
+};
+use demangle_leaf_rows::{
+    Depth, ParseContext, read_abi_tag, read_abi_tags, read_call_offset, read_clone_suffix,
+    read_clone_type_identifier, read_cv_qualifiers, read_discriminator, read_function_param,
+    read_identifier, read_number, read_nv_offset, read_resource_name, read_seq_id,
+    read_source_name, read_template_param, read_unnamed_type_name, read_v_offset, substitution,
 };
 use demangle_text::{Error, IndexStr, ParseOptions, Result};
 use demangle_vocab::WellKnownComponent;

@@ -1,11 +1,11 @@
 //! Each word of each table against a second listing: the words of the ABI that the original reads, with its texts. And
 //! what no clause says.
 
-use crate::{
+use demangle_text::{Error, IndexStr, Result};
+use demangle_vocab::{
     ExplicitObjectParameter, RefQualifier, SimpleOperatorName, StandardBuiltinType,
     WellKnownComponent, no_word_is_a_prefix, the_word_at_the_front_is_read,
 };
-use demangle_text::{Error, IndexStr, Result};
 use std::test::Fail;
 
 /// The operators of the ABI, section 5.1.3, that the original reads: word, text, number of operands.

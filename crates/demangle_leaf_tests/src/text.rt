@@ -1,6 +1,6 @@
 //! What no clause says: answers that come from outside, and that each call is met by some input.
 
-use crate::{
+use demangle_text::{
     Error, IndexStr, ParseOptions, Result, consume, identifier_len, parse_number, parse_unsigned,
 };
 use std::test::Fail;
