@@ -26,4 +26,3 @@ pub use readers::{
     read_nv_offset, read_resource_name, read_seq_id, read_source_name, read_template_param,
     read_unnamed_type_name, read_v_offset,
 };
-
