@@ -36,11 +36,12 @@ found_in t U k = slice_get t.components.others.items k
 found_is : (t : SubstitutionTable) (v : Which) (k : ℕ) →
     entry_at v k (table_of t) ≡ option_map tree_of_substitutable (found_in t v k)
 found_is t N k =
-    numbered_at tree_of_substitutable t.components.numbered.items t.components.others.items t.components.kept.items k
+    numbered_at tree_of_substitutable t.components.numbered.items t.components.others.items
+    t.components.numbered_before.items k
     ∙ slice_get-map tree_of_substitutable t.components.numbered.items k
 found_is t U k =
-    other_at tree_of_substitutable t.components.numbered.items t.components.others.items t.components.kept.items k
-    t.components.paired t.components.rising
+    other_at tree_of_substitutable t.components.numbered.items t.components.others.items
+    t.components.numbered_before.items k t.components.paired t.components.rising
     ∙ slice_get-map tree_of_substitutable t.components.others.items k
 
 is_there : (s : Substitutable) → as_optional (tag_of_substitutable s) ≡ itself
