@@ -1,3 +1,4 @@
+pub mod DeleteLaws
 pub mod ExpressionStarts
 pub mod MissingWords
 pub mod RowsRead

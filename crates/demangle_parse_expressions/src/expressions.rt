@@ -16,7 +16,7 @@ use crate::casts::{cast, of_expression, of_type};
 use crate::first_bytes::{ExpressionStart, expression_start};
 use crate::folds::fold_expr;
 use crate::members::members;
-use crate::news::{allocation, global_allocation};
+use crate::news::{allocation, delete_word, deleted, global_allocation};
 use crate::operands::operators;
 use crate::unresolved::unresolved_name;
 use demangle_answers::passed;
@@ -127,8 +127,27 @@ fn worded<'b, B: Below>(
 }
 
 /// New and delete, and what comes after these.
-#[tactic(auto, unfolding(demangle_forms::specs::ExpressionForms::names_at, crate::specs::ExpressionStarts::parameters_at))]
 fn allocation_or_parameter<'b, B: Below>(
+    below: B,
+    alloc: Global,
+    depth: Depth,
+    subs: &mut SubstitutionTable,
+    input: IndexStr<'b>,
+) -> Result<(Expression, IndexStr<'b>)>
+    requires can { B.can below }
+    requires room { depth.levels < B.most below }
+    ensures { Reads tree_of_expression result (table_of subs.old) (table_of subs.new)
+        (names_at (cread depth.levels) depth.conversion (here (spot input.entry) (table_of subs.old))) }
+{
+    match delete_word(depth, input) {
+        Some((form, rest)) => deleted(below, alloc, depth, subs, form, rest),
+        None => any_allocation_or_parameter(below, alloc, depth, subs, input),
+    }
+}
+
+/// The same where no word of delete is known to be there: each alternative is tried.
+#[tactic(auto, unfolding(demangle_forms::specs::ExpressionForms::names_at, crate::specs::ExpressionStarts::parameters_at))]
+fn any_allocation_or_parameter<'b, B: Below>(
     below: B,
     alloc: Global,
     depth: Depth,

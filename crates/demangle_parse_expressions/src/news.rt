@@ -1,14 +1,18 @@
-//! New and delete.
+//! New and delete. Where levels enough are left, delete is read once: where what is deleted can't be read, the operand
+//! of the operator of the same word can't either.
 
 ghost use Rattle.std.specs.Prelude.{◌≡◌, ◌≤◌, ◌<◌, []};
 ghost use Rattle.demangle_text.specs.Spot.{spot};
+ghost use Rattle.demangle_core.specs.Table.{Table};
 ghost use Rattle.demangle_table.specs.TableOf.{table_of};
 ghost use Rattle.demangle_grammar.specs.Rule.{Row};
 ghost use Rattle.demangle_grammar.specs.Code.{close, cread, here};
 ghost use Rattle.demangle_nodes.specs.TreeNodes.{tree_of_expression};
-ghost use Rattle.demangle_forms.specs.ExpressionForms.{allocation_at, delete_at, global_allocation_at, new_at};
-ghost use Rattle.demangle_answers.specs.Reads.{ReadsPart};
+ghost use Rattle.demangle_forms.specs.ExpressionForms.{allocation_at, delete_at, global_allocation_at, names_at};
+ghost use Rattle.demangle_forms.specs.ExpressionForms.{new_at, of_expression_at};
+ghost use Rattle.demangle_answers.specs.Reads.{Reads, ReadsPart};
 ghost use Rattle.demangle_row_parts.specs.ExpressionWords.{tag_of_delete_form, tag_of_new_form, tags_of_forms};
+ghost use Rattle.demangle_parse_expressions.specs.Deletes.{names_by};
 
 use crate::calls::initializer;
 use crate::lists::all_expressions;
@@ -21,6 +25,9 @@ use demangle_row_parts::{AllocationForms, DeleteForm, NewForm};
 use demangle_table::SubstitutionTable;
 use demangle_text::{Error, IndexStr, Result, consume};
 use std::alloc::Global;
+
+/// The most levels that an alternative between delete and operators enters before it fails.
+const SHALLOW: u32 = 4;
 
 /// New or delete behind `gs`, ABI section 5.1.6.
 #[tactic(auto, using(crate::proofs::MissingWords::word_missing), unfolding(demangle_forms::specs::ExpressionForms::global_allocation_at))]
@@ -133,5 +140,42 @@ fn delete_of<'b, B: Below>(
 {
     let rest = consume(word, input)?;
     let (object, rest) = boxed_expression(below, alloc, depth, subs, rest)?;
+    Ok((form.of(object), rest))
+}
+
+/// The form of delete whose word stands at the front, and the rest, where levels enough are left for the alternatives
+/// between it and an operator.
+#[tactic(auto, using(crate::proofs::DeleteLaws::deletes))]
+pub fn delete_word<'b>(depth: Depth, input: IndexStr<'b>) -> Option<(DeleteForm, IndexStr<'b>)>
+    ensures { (table : Table) → names_at (cread depth.levels) depth.conversion (here (spot input.entry) table)
+        ≡ names_by result (cread depth.levels) depth.conversion (here (spot input.entry) table) }
+{
+    if depth.levels < SHALLOW {
+        return None;
+    }
+    match input.as_slice() {
+        [b'd', b'l', ..] => Some((DeleteForm::Plain, input.range_from(2..))),
+        [b'd', b'a', ..] => Some((DeleteForm::Array, input.range_from(2..))),
+        _ => None,
+    }
+}
+
+/// Delete behind its word.
+#[tactic(auto, unfolding(demangle_forms::specs::ExpressionForms::of_expression_at))]
+pub fn deleted<'b, B: Below>(
+    below: B,
+    alloc: Global,
+    depth: Depth,
+    subs: &mut SubstitutionTable,
+    form: DeleteForm,
+    input: IndexStr<'b>,
+) -> Result<(Expression, IndexStr<'b>)>
+    requires can { B.can below }
+    requires room { depth.levels < B.most below }
+    ensures { Reads tree_of_expression result (table_of subs.old) (table_of subs.new)
+        (close (of_expression_at (tag_of_delete_form form) (cread depth.levels) depth.conversion
+        (here (spot input.entry) (table_of subs.old)))) }
+{
+    let (object, rest) = boxed_expression(below, alloc, depth, subs, input)?;
     Ok((form.of(object), rest))
 }

@@ -5,8 +5,8 @@ use cpp_demangle::error::{DemangleError, Error};
 use cpp_demangle::{DemangleOptions, ParseOptions, SymbolFault, demangle_symbol};
 use std::test::Fail;
 
-/// Bytes that aren't a name, and why.
-const UNREAD: [(&[u8], Error); 15] = [
+/// Bytes that aren't a name, and why. The last ends only where delete isn't read again as an operator.
+const UNREAD: [(&[u8], Error); 16] = [
     (b"", Error::UnexpectedEnd),
     (b"_Z", Error::UnexpectedEnd),
     (b"Q", Error::UnexpectedEnd),
@@ -23,6 +23,10 @@ const UNREAD: [(&[u8], Error); 15] = [
     (b"_ZTC1a99999999999999999999_1b", Error::Overflow),
     (
         b"_ZN5space3fooEibc and some trailing junk",
+        Error::UnexpectedText,
+    ),
+    (
+        b"_Z1fIXdldldldldldldldldldldldldldldldldldldldldldldldldldldldldldldldldldldldldldldl",
         Error::UnexpectedText,
     ),
 ];
