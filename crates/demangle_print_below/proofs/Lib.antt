@@ -1,0 +1,4 @@
+pub mod Referred
+pub mod ReferenceItems
+pub mod Rvalues
+pub mod Tops

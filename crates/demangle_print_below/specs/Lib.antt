@@ -1,2 +1,3 @@
 pub mod PageOf
 pub mod PlaceOf
+pub mod References

@@ -1,4 +1,3 @@
-pub mod References
 pub mod Itself
 pub mod Scopes
 pub mod Spellings

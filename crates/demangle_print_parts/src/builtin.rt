@@ -12,11 +12,9 @@ ghost use Rattle.demangle_scope.specs.ScopeOf.{scope_of};
 ghost use Rattle.demangle_print_below.specs.PageOf.{page};
 ghost use Rattle.demangle_print_parts.specs.Builtins.{qualifiers};
 
-use crate::handles::non_substitution;
 use crate::identifiers::source_name;
-use crate::items::close;
 use crate::texts::{number, standard_builtin_type};
-use demangle_print_below::Below;
+use demangle_print_below::{Below, close, non_substitution};
 use demangle_scope::{ArgScopeStack, DemangleContext, DemangleWrite, InnerItem};
 use demangle_tree::{BuiltinType, CvQualifiers, ParametricBuiltinType, QualifiedBuiltin};
 

@@ -1,7 +1,6 @@
 //! Handles: what they hold, or the component to which they refer. They count no level.
 
-ghost use Rattle.demangle_core.specs.Core.{N, Tag, end, node, ref};
-ghost use Rattle.demangle_leaf_nodes.specs.TreeLeaves.{tree_of_non_substitution, tree_of_prefix_handle};
+ghost use Rattle.demangle_leaf_nodes.specs.TreeLeaves.{tree_of_prefix_handle};
 ghost use Rattle.demangle_leaf_nodes.specs.TreeLeaves.{tree_of_template_template_param_handle, tree_of_type_handle};
 ghost use Rattle.demangle_leaf_nodes.specs.TreeLeaves.{tree_of_unresolved_type_handle};
 ghost use Rattle.demangle_leaf_nodes.specs.TreeLeaves.{tree_of_unscoped_template_name_handle};
@@ -11,48 +10,12 @@ ghost use Rattle.demangle_print_below.specs.PageOf.{page};
 
 use crate::builtin::{builtin_type, qualified_builtin};
 use crate::texts::well_known_component;
-use demangle_print_below::Below;
+use demangle_print_below::{Below, back_reference, non_substitution};
 use demangle_scope::{ArgScopeStack, DemangleContext, DemangleWrite};
 use demangle_tree::{
-    NonSubstitution, PrefixHandle, TemplateTemplateParamHandle, TypeHandle, UnresolvedTypeHandle,
+    PrefixHandle, TemplateTemplateParamHandle, TypeHandle, UnresolvedTypeHandle,
     UnscopedTemplateNameHandle,
 };
-
-/// The component of this number in the list of substitutions; nothing where there is none.
-fn back_reference<'subs, W: DemangleWrite, B: Below<'subs, W>>(
-    below: B,
-    idx: usize,
-    scope: Option<ArgScopeStack<'_, 'subs>>,
-    ctx: &mut DemangleContext<'subs, '_, W>,
-)
-    requires { B.can below }
-    ensures { Prints (B.at below) (page W.seen ctx.old) (page W.seen ctx.new)
-        (node Tag.BackReference (ref N idx end) end) (scope_of scope.entry) }
-{
-    let subs = below.subs();
-    match subs.get(idx) {
-        None => {}
-        Some(component) => below.substitutable(component, scope, ctx),
-    }
-}
-
-/// A component of the list of non-substitutions; nothing where it isn't there.
-pub fn non_substitution<'subs, W: DemangleWrite, B: Below<'subs, W>>(
-    below: B,
-    node: &NonSubstitution,
-    scope: Option<ArgScopeStack<'_, 'subs>>,
-    ctx: &mut DemangleContext<'subs, '_, W>,
-)
-    requires { B.can below }
-    ensures { Prints (B.at below) (page W.seen ctx.old) (page W.seen ctx.new)
-        (tree_of_non_substitution node.now) (scope_of scope.entry) }
-{
-    let subs = below.subs();
-    match subs.get_non_substitution(node.0) {
-        None => {}
-        Some(component) => below.substitutable(component, scope, ctx),
-    }
-}
 
 /// A type.
 #[inline(always)]

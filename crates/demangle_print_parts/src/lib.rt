@@ -1,5 +1,5 @@
-//! Lines that the lines of all groups call: words, numbers, bytes of the input, qualifiers, what of an item stands
-//! behind, lists, and template parameters and arguments.
+//! Lines that the lines of all groups call: words, numbers, bytes of the input, qualifiers, handles, lists, and
+//! template parameters and arguments.
 #![tactic(auto)]
 
 mod arguments;
@@ -8,7 +8,6 @@ mod bytes;
 mod decltypes;
 mod handles;
 mod identifiers;
-mod items;
 mod lists;
 mod numbers;
 mod operators;
@@ -23,11 +22,10 @@ pub use builtin::{
 pub use bytes::{bytes_between, bytes_text, text_of};
 pub use decltypes::decltype;
 pub use handles::{
-    non_substitution, prefix_handle, template_template_param_handle, type_handle,
-    unresolved_type_handle, unscoped_template_name_handle,
+    prefix_handle, template_template_param_handle, type_handle, unresolved_type_handle,
+    unscoped_template_name_handle,
 };
 pub use identifiers::{identifier, source_name};
-pub use items::close;
 pub use lists::{expression_list, type_list};
 pub use numbers::{optional_ordinal, ordinal};
 pub use operators::operator_name;

@@ -4,8 +4,6 @@ pub mod ArrayComponents
 pub mod Items
 pub mod Itself
 pub mod Lists
-pub mod Rvalues
-pub mod Tops
 pub mod Turns
 pub mod Voids
 pub mod Wanting

@@ -16,7 +16,7 @@ use Rattle.demangle_meets.proofs.Lines.{turns_all, turns_over}
 use Rattle.demangle_meets.proofs.Sifted.{remains_to_sift, sifts_none, sifts_over, then_done, then_kept}
 use Rattle.demangle_context.specs.Items.{item_at}
 use Rattle.demangle_print_types.proofs.Counts.{all_left, none_left, one_left}
-use Rattle.demangle_print_types.proofs.Tops.{no_top, top_of}
+use Rattle.demangle_print_below.proofs.Tops.{no_top, top_of}
 
 -- ---- what of each item stands behind
 pub turns_begin : {p : Place} {a : Page} {sc : Scope Core} (n : ℕ) →

@@ -1,15 +1,14 @@
 -- What of items stands behind, piece by piece.
-use Rattle.std.specs.Prelude.{pos, Bool, false, List, [], ◌∷◌, Some, codes}
+use Rattle.std.specs.Prelude.{pos, Bool, Some, codes}
 use Rattle.std.specs.Fmt.{signed_decimal}
 use Rattle.demangle_core.specs.Core.{Core}
 use Rattle.demangle_nodes.specs.TreeNodes.{tree_of_expression}
 use Rattle.demangle_entries.specs.declared.entries.ArrayType.{ArrayType}
 use Rattle.demangle_entries.specs.declared.entries.ArrayType.TheVariants as of_array
 use Rattle.demangle_printing.specs.World.{World, parts}
-use Rattle.demangle_printing.specs.State.{Held}
 use Rattle.demangle_printing.specs.Scope.{Scope}
 use Rattle.demangle_printing.specs.Act.{Act, done, text, space, block, pop}
-use Rattle.demangle_printing.specs.Rules.{line_of, is_rvalue, quoted, tag, inner_of, emptied}
+use Rattle.demangle_printing.specs.Rules.{line_of, quoted, inner_of, emptied}
 use Rattle.demangle_printing.specs.Parameters.{any_set}
 use Rattle.demangle_printing.specs.Arrays.{before_bounds, around_array}
 use Rattle.demangle_printing.specs.Reader.{chosen}
@@ -18,11 +17,6 @@ module _ (w : World Core) where
   -- the qualifiers of a function's type, where there are any
   abbrev pub qualifiers_behind : Core → Scope Core → Act Core
   qualifiers_behind x sc = chosen (any_set w (parts w x)) (block (line_of w (Some x) sc) done) done
-
-  -- a right reference is on top of the items
-  abbrev pub is_rvalue_top : List (Held Core) → Bool
-  is_rvalue_top [] = false
-  is_rvalue_top (h ∷ hs) = is_rvalue w (tag w h.item)
 
   -- ---- arrays
   -- the items that wait, a closing parenthesis, and the space before the bounds

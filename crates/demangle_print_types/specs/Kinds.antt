@@ -23,23 +23,6 @@ use Rattle.demangle_print_types.specs.declared.arrays.ArrayTurn.TheVariants as o
 use Rattle.demangle_print_types.specs.declared.parentheses.Parentheses.{Parentheses}
 use Rattle.demangle_print_types.specs.declared.parentheses.Parentheses.TheVariants as of_parentheses
 
--- ---- references
-abbrev pub is_rvalue_node : TypeNode → Bool
-is_rvalue_node (of_node.RvalueRef x) = true
-is_rvalue_node _ = false
-
-abbrev pub is_lvalue_node : TypeNode → Bool
-is_lvalue_node (of_node.LvalueRef x) = true
-is_lvalue_node _ = false
-
-abbrev pub is_rvalue_item : InnerItem → Bool
-is_rvalue_item (of_item.Node x) = is_rvalue_node x.now
-is_rvalue_item _ = false
-
-abbrev pub is_lvalue_item : InnerItem → Bool
-is_lvalue_item (of_item.Node x) = is_lvalue_node x.now
-is_lvalue_item _ = false
-
 -- ---- arrays
 abbrev pub turn_of : ArrayTurn → Turn
 turn_of of_turn.Array = turn.array

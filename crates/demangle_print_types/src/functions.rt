@@ -14,8 +14,8 @@ ghost use Rattle.demangle_print_below.specs.PageOf.{page};
 ghost use Rattle.demangle_print_parts.specs.Pieces.{when_there};
 ghost use Rattle.demangle_print_types.specs.Pieces.{first_line};
 
-use demangle_print_below::Below;
-use demangle_print_parts::{close, type_handle};
+use demangle_print_below::{Below, close};
+use demangle_print_parts::type_handle;
 use demangle_scope::{ArgScopeStack, DemangleContext, DemangleWrite, InnerItem};
 use demangle_tree::{BareFunctionType, ExceptionSpec, FunctionType, TypeHandle};
 

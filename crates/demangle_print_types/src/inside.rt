@@ -21,8 +21,7 @@ ghost use Rattle.demangle_print_types.specs.Behind.{qualifiers_behind};
 
 use crate::arrays::array_inside;
 use crate::parameter_lists::{parameters, parameters_steps};
-use crate::references::joined;
-use demangle_print_below::Below;
+use demangle_print_below::{Below, joined};
 use demangle_print_parts::{
     cv_qualifiers, is_qualified, qualifier_words, reference_mark, type_handle, unsigned,
 };

@@ -6,7 +6,6 @@ mod functions;
 mod inside;
 mod parameter_lists;
 mod parentheses;
-mod references;
 mod types;
 mod waiting;
 

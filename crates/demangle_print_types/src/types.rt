@@ -16,9 +16,9 @@ ghost use Rattle.demangle_print_types.specs.Pieces.{expansion, extended, in_mids
 ghost use Rattle.demangle_print_types.specs.Pieces.{word_and_part};
 
 use crate::functions::function_type;
-use demangle_print_below::Below;
+use demangle_print_below::{Below, close};
 use demangle_print_parts::{
-    close, decltype, optional_template_args, source_name, template_args, template_param,
+    decltype, optional_template_args, source_name, template_args, template_param,
     template_template_param_handle, type_handle,
 };
 use demangle_scope::{ArgScopeStack, DemangleContext, DemangleWrite, InnerItem, PrintFlag};

@@ -1,5 +1,5 @@
 use Rattle.demangle_meets.proofs.Acts.{closes_other, closes_own}
-use Rattle.demangle_print_parts.proofs.items.close.Goals as goal
+use Rattle.demangle_print_below.proofs.items.close.Goals as goal
 
 pub returns-then-take_own : goal.returns-then-take_own
 returns-then-take_own g c = closes_own (rw c.level.ensures at c.if-take_own.ensures) c.inner.ensures.meets

@@ -1,7 +1,7 @@
 use Rattle.std.proofs.Common.{sym, ◌∙◌}
 use Rattle.demangle_meets.proofs.Lines.{rvalues_all}
-use Rattle.demangle_print_types.proofs.Rvalues.{nowhere, rvalue_taken, rvalues_stop, shorter}
-use Rattle.demangle_print_types.proofs.references.take_rvalues.Goals as goal
+use Rattle.demangle_print_below.proofs.Rvalues.{nowhere, rvalue_taken, rvalues_stop, shorter}
+use Rattle.demangle_print_below.proofs.references.take_rvalues.Goals as goal
 
 pub loop-ctx-init : goal.loop-ctx-init
 loop-ctx-init g c = λ p. rvalues_all _

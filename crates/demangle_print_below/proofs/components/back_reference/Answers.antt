@@ -1,8 +1,8 @@
 use Rattle.std.proofs.Common.{◌∙◌, ap}
 use Rattle.demangle_core.specs.Core.{N}
 use Rattle.demangle_core.specs.Table.{entry_at}
-use Rattle.demangle_print_parts.proofs.References.{found, not_found}
-use Rattle.demangle_print_parts.proofs.handles.back_reference.Goals as goal
+use Rattle.demangle_print_below.proofs.Referred.{found, not_found}
+use Rattle.demangle_print_below.proofs.components.back_reference.Goals as goal
 
 pub returns-in-None : goal.returns-in-None
 returns-in-None g c = not_found _ N _ (c.in-None.ensures ∙ ap (entry_at N c.args.idx) c.subs-subs.ensures)

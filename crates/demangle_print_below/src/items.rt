@@ -8,7 +8,7 @@ ghost use Rattle.demangle_scope.specs.ItemTree.{item_tree};
 ghost use Rattle.demangle_scope.specs.ScopeOf.{scope_of};
 ghost use Rattle.demangle_print_below.specs.PageOf.{page};
 
-use demangle_print_below::Below;
+use crate::below::Below;
 use demangle_scope::{ArgScopeStack, DemangleContext, DemangleWrite, InnerItem};
 
 /// What of an item stands behind, where the item that was pushed at this level is still on top.

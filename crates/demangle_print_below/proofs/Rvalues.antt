@@ -1,4 +1,4 @@
--- Right references that are taken from the top, in a loop.
+-- Rvalue references that are taken from the top, in a loop.
 use Rattle.std.proofs.Common.{◌≡◌, ◌<◌, true, false, List, [], ◌∷◌, length, refl, sym, ◌∙◌, ap}
 use Rattle.std.proofs.Common.{subst, arith}
 use Rattle.demangle_core.specs.Core.{Core}
@@ -10,7 +10,7 @@ use Rattle.demangle_meets.specs.Place.{Place, Refers, world_of}
 use Rattle.demangle_meets.specs.Calls.{Steps}
 use Rattle.demangle_meets.specs.Meets.{Meets, RvaluesRemain}
 use Rattle.demangle_meets.proofs.Lines.{rvalues_end, rvalues_other, then_rvalue}
-use Rattle.demangle_print_types.specs.Behind.{is_rvalue_top}
+use Rattle.demangle_print_below.specs.References.{is_rvalue_top}
 
 -- one is taken
 pub rvalue_taken : {p : Place} {a c d : Page} {f : Act Core} → RvaluesRemain p a c f (length c.inner) →

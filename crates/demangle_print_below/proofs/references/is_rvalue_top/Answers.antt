@@ -1,10 +1,10 @@
 use Rattle.std.proofs.Common.{refl, sym, ◌∙◌, ap}
 use Rattle.demangle_printing.specs.Rules.{is_rvalue, tag}
 use Rattle.demangle_meets.specs.Place.{world_of}
-use Rattle.demangle_print_types.specs.Behind.{is_rvalue_top}
-use Rattle.demangle_print_types.proofs.Items.{rvalue_is}
-use Rattle.demangle_print_types.proofs.Tops.{no_top, top_has}
-use Rattle.demangle_print_types.proofs.references.is_rvalue_top.Goals as goal
+use Rattle.demangle_print_below.specs.References.{is_rvalue_top}
+use Rattle.demangle_print_below.proofs.ReferenceItems.{rvalue_is}
+use Rattle.demangle_print_below.proofs.Tops.{no_top, top_has}
+use Rattle.demangle_print_below.proofs.references.is_rvalue_top.Goals as goal
 
 pub returns-in-None : goal.returns-in-None
 returns-in-None g c = λ r. sym (ap (is_rvalue_top (world_of r)) (no_top _ c.in-None.ensures))

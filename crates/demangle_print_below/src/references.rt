@@ -6,8 +6,8 @@ ghost use Rattle.demangle_printing.specs.Rules.{is_lvalue_top, joined, rvalues};
 ghost use Rattle.demangle_meets.specs.Meets.{Meets};
 ghost use Rattle.demangle_meets.specs.Place.{Place, Refers, world_of};
 ghost use Rattle.demangle_print_below.specs.PageOf.{page};
-ghost use Rattle.demangle_print_types.specs.Behind.{is_rvalue_top};
-ghost use Rattle.demangle_print_types.specs.Kinds.{is_lvalue_item, is_lvalue_node, is_rvalue_item, is_rvalue_node};
+ghost use Rattle.demangle_print_below.specs.References.{is_lvalue_item, is_lvalue_node, is_rvalue_item};
+ghost use Rattle.demangle_print_below.specs.References.{is_rvalue_node, is_rvalue_top};
 
 use demangle_scope::{DemangleContext, DemangleWrite, InnerItem};
 use demangle_tree::TypeNode;
@@ -79,7 +79,7 @@ fn take_rvalues<'subs, W: DemangleWrite>(ctx: &mut DemangleContext<'subs, '_, W>
 }
 
 /// One mark for adjacent references: this one, unless an lvalue reference waits, whose mark is printed later.
-pub(crate) fn joined<'subs, W: DemangleWrite>(mark: &str, ctx: &mut DemangleContext<'subs, '_, W>)
+pub fn joined<'subs, W: DemangleWrite>(mark: &str, ctx: &mut DemangleContext<'subs, '_, W>)
     ensures { (p : Place) → Meets p (page W.seen ctx.old) (page W.seen ctx.new)
         (joined (world_of p.refers) (text mark.now done) done) }
 {

@@ -1,7 +1,7 @@
 use Rattle.std.proofs.Common.{true, false, sym, ◌∙◌}
 use Rattle.demangle_meets.proofs.Acts.{meets_done, meets_text}
 use Rattle.demangle_meets.proofs.Lines.{meets_joined}
-use Rattle.demangle_print_types.proofs.references.joined.Goals as goal
+use Rattle.demangle_print_below.proofs.references.joined.Goals as goal
 
 pub returns-then-not-is_lvalue_top : goal.returns-then-not-is_lvalue_top
 returns-then-not-is_lvalue_top g c = λ p.

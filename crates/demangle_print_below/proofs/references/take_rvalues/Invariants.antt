@@ -3,7 +3,7 @@ use Rattle.demangle_printing.specs.Rules.{rvalues}
 use Rattle.demangle_meets.specs.Place.{Place, world_of}
 use Rattle.demangle_meets.specs.Meets.{RvaluesRemain}
 use Rattle.demangle_print_below.specs.PageOf.{page}
-use Rattle.demangle_print_types.proofs.references.take_rvalues.Given as goal
+use Rattle.demangle_print_below.proofs.references.take_rvalues.Given as goal
 
 abbrev pub invariant-loop-ctx : goal.invariant-loop-ctx
 invariant-loop-ctx g l = (p : Place) →
