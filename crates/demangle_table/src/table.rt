@@ -182,6 +182,12 @@ impl SubstitutionTable {
     {
         self.components.cut_back(lengths)
     }
+
+    /// Drops the table with its components. The drops of all nodes are proved in this crate, and not again in one that
+    /// calls this. An addition to the original.
+    pub fn release(self) {
+        drop(self);
+    }
 }
 
 /// Equal components in both lists; the order between the lists is left out.
