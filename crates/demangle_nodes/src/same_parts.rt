@@ -29,7 +29,6 @@ use crate::nodes::{
 use demangle_leaf_nodes::{CloneSuffix, Discriminator, ResourceName};
 
 #[cycle(same)]
-#[tactic(auto, using(crate::proofs::Parts::parts_mangled_name, demangle_leaf_nodes::proofs::Same::and_true))]
 pub(crate) fn same_mangled_name(x: &MangledName, y: &MangledName) -> bool
     ensures { result ≡ alike (tag_of_mangled_name x.now) (tag_of_mangled_name y.now) (same
         (parts_of_mangled_name x.now) (parts_of_mangled_name y.now)) }
@@ -57,7 +56,6 @@ pub(crate) fn same_mangled_name(x: &MangledName, y: &MangledName) -> bool
 }
 
 #[cycle(same)]
-#[tactic(auto, using(crate::proofs::Parts::parts_encoding, demangle_leaf_nodes::proofs::Same::and_true))]
 pub(crate) fn same_encoding(x: &Encoding, y: &Encoding) -> bool
     ensures { result ≡ alike (tag_of_encoding x.now) (tag_of_encoding y.now) (same (parts_of_encoding x.now)
         (parts_of_encoding y.now)) }
@@ -79,7 +77,6 @@ pub(crate) fn same_encoding(x: &Encoding, y: &Encoding) -> bool
 }
 
 #[cycle(same)]
-#[tactic(auto, using(crate::proofs::Parts::parts_global_ctor_dtor, demangle_leaf_nodes::proofs::Same::and_true))]
 pub(crate) fn same_global_ctor_dtor(x: &GlobalCtorDtor, y: &GlobalCtorDtor) -> bool
     ensures { result ≡ alike (tag_of_global_ctor_dtor x.now) (tag_of_global_ctor_dtor y.now) (same
         (parts_of_global_ctor_dtor x.now) (parts_of_global_ctor_dtor y.now)) }
@@ -97,7 +94,6 @@ pub(crate) fn same_global_ctor_dtor(x: &GlobalCtorDtor, y: &GlobalCtorDtor) -> b
 }
 
 #[cycle(same)]
-#[tactic(auto, using(crate::proofs::Parts::parts_name, demangle_leaf_nodes::proofs::Same::and_true))]
 pub(crate) fn same_name(x: &Name, y: &Name) -> bool
     ensures { result ≡ alike (tag_of_name x.now) (tag_of_name y.now) (same (parts_of_name x.now)
         (parts_of_name y.now)) }
@@ -114,7 +110,7 @@ pub(crate) fn same_name(x: &Name, y: &Name) -> bool
         Name::UnscopedTemplate(a, b) => match y {
             Name::UnscopedTemplate(other_a, other_b) => a == other_a
                 && same_template_args(b, other_b),
-            Name::Nested(_) | Name::Unscoped(_) | Name::Local(_) => false,
+            _ => false,
         },
         Name::Local(a) => match y {
             Name::Local(other_a) => same_local_name(a, other_a),
@@ -132,7 +128,6 @@ pub(crate) fn same_template_args(x: &TemplateArgs, y: &TemplateArgs) -> bool
 }
 
 #[cycle(same)]
-#[tactic(auto, using(crate::proofs::Parts::parts_template_arg, demangle_leaf_nodes::proofs::Same::and_true))]
 pub(crate) fn same_template_arg(x: &TemplateArg, y: &TemplateArg) -> bool
     ensures { result ≡ alike (tag_of_template_arg x.now) (tag_of_template_arg y.now) (same
         (parts_of_template_arg x.now) (parts_of_template_arg y.now)) }
@@ -174,7 +169,6 @@ pub(crate) fn same_initializer(x: &Initializer, y: &Initializer) -> bool
 }
 
 #[cycle(same)]
-#[tactic(auto, using(crate::proofs::Parts::parts_expression, demangle_leaf_nodes::proofs::Same::and_true))]
 pub(crate) fn same_expression(x: &Expression, y: &Expression) -> bool
     ensures { result ≡ alike (tag_of_expression x.now) (tag_of_expression y.now) (same (parts_of_expression x.now)
         (parts_of_expression y.now)) }
@@ -376,7 +370,6 @@ pub(crate) fn same_expression(x: &Expression, y: &Expression) -> bool
 }
 
 #[cycle(same)]
-#[tactic(auto, using(crate::proofs::Parts::parts_unresolved_name, demangle_leaf_nodes::proofs::Same::and_true))]
 pub(crate) fn same_unresolved_name(x: &UnresolvedName, y: &UnresolvedName) -> bool
     ensures { result ≡ alike (tag_of_unresolved_name x.now) (tag_of_unresolved_name y.now) (same
         (parts_of_unresolved_name x.now) (parts_of_unresolved_name y.now)) }
@@ -428,7 +421,6 @@ pub(crate) fn same_simple_id(x: &SimpleId, y: &SimpleId) -> bool
 }
 
 #[cycle(same)]
-#[tactic(auto, using(crate::proofs::Parts::parts_base_unresolved_name, demangle_leaf_nodes::proofs::Same::and_true))]
 pub(crate) fn same_base_unresolved_name(x: &BaseUnresolvedName, y: &BaseUnresolvedName) -> bool
     ensures { result ≡ alike (tag_of_base_unresolved_name x.now) (tag_of_base_unresolved_name y.now) (same
         (parts_of_base_unresolved_name x.now) (parts_of_base_unresolved_name y.now)) }
@@ -451,7 +443,6 @@ pub(crate) fn same_base_unresolved_name(x: &BaseUnresolvedName, y: &BaseUnresolv
 }
 
 #[cycle(same)]
-#[tactic(auto, using(crate::proofs::Parts::parts_destructor_name, demangle_leaf_nodes::proofs::Same::and_true))]
 pub(crate) fn same_destructor_name(x: &DestructorName, y: &DestructorName) -> bool
     ensures { result ≡ alike (tag_of_destructor_name x.now) (tag_of_destructor_name y.now) (same
         (parts_of_destructor_name x.now) (parts_of_destructor_name y.now)) }
@@ -488,7 +479,6 @@ pub(crate) fn same_expr_primary(x: &ExprPrimary, y: &ExprPrimary) -> bool
 }
 
 #[cycle(same)]
-#[tactic(auto, using(crate::proofs::Parts::parts_local_name, demangle_leaf_nodes::proofs::Same::and_true))]
 pub(crate) fn same_local_name(x: &LocalName, y: &LocalName) -> bool
     ensures { result ≡ alike (tag_of_local_name x.now) (tag_of_local_name y.now) (same (parts_of_local_name x.now)
         (parts_of_local_name y.now)) }
