@@ -157,8 +157,9 @@ def other_variants(parts, types):
             f"other_{lower} k y h = elim (eqb_tells k ({tag}y)))"
             f" [ inl e ↦ absurd (none_{lower} y (subst (λ n. {is_not} n y) e.1 h)) | inr e ↦ e.0 ]\n"
         )
-    declared = [line for line in re.findall(r"^use .*\n", parts, re.M) if ".declared." in line]
-    used = [line for line in declared if "TheBlock" not in line and "roll-" not in line]
+    words = set(re.findall(r"\w+", text))
+    declared = re.findall(r"^use \S+\.declared\.\S+\.(?:\{\w+\}|TheVariants as \w+)\n", parts, re.M)
+    used = [line for line in declared if re.findall(r"\w+", line)[-1] in words]
     head = (
         MADE + "-- For each type, that a node which isn't of one variant has another's tag: a step for all variants.\n"
         "use Rattle.std.proofs.Common.{◌≡◌, sym, refl, subst, ℕ, ℤ, ◌==◌, Bool, true, false, Vec, Global, inl, inr}\n"

@@ -4,13 +4,11 @@ use Rattle.std.proofs.Common.{◌≡◌, sym, refl, subst, ℕ, ℤ, ◌==◌, B
 use Rattle.std.proofs.lemmas.Bool.Decides.{eqb_tells}
 use Rattle.demangle_core.specs.Core.{Tag, code}
 use Rattle.std.specs.declared.option.Option.{Option}
-use Rattle.std.specs.declared.option.Option.TheVariants as of_option
 use Rattle.std.specs.declared.boxed.Box.{Box}
 use Rattle.demangle_vocab.specs.declared.operator.SimpleOperatorName.{SimpleOperatorName}
 use Rattle.demangle_leaf_nodes.specs.declared.leaves.TemplateParam.{TemplateParam}
 use Rattle.demangle_leaf_nodes.specs.declared.leaves.Discriminator.{Discriminator}
 use Rattle.demangle_leaf_nodes.specs.declared.leaves.ResourceName.{ResourceName}
-use Rattle.demangle_leaf_nodes.specs.declared.leaves.SourceName.{SourceName}
 use Rattle.demangle_leaf_nodes.specs.declared.leaves.CloneSuffix.{CloneSuffix}
 use Rattle.demangle_leaf_nodes.specs.declared.leaves.CallOffset.{CallOffset}
 use Rattle.demangle_leaf_nodes.specs.declared.leaves.FunctionParam.{FunctionParam}
