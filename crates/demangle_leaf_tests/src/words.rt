@@ -1,6 +1,7 @@
 //! Each word of each table against a second listing: the words of the ABI that the original reads, with its texts. And
 //! what no clause says.
 
+use crate::checks::{holds, same};
 use demangle_text::{Error, IndexStr, Result};
 use demangle_vocab::{
     ExplicitObjectParameter, RefQualifier, SimpleOperatorName, StandardBuiltinType,
@@ -9,7 +10,7 @@ use demangle_vocab::{
 use std::test::Fail;
 
 /// The operators of the ABI, section 5.1.3, that the original reads: word, text, number of operands.
-const OPERATORS: [(&str, &str, u8); 48] = [
+static OPERATORS: [(&str, &str, u8); 48] = [
     ("nw", "new", 3),
     ("na", "new[]", 3),
     ("dl", "delete", 1),
@@ -62,7 +63,7 @@ const OPERATORS: [(&str, &str, u8); 48] = [
 
 /// The builtin types of the ABI, section 5.1.5.2, that are one word and that the original reads: word, text. The ABI
 /// has `DF16b` with `DF`, and the fixed-point types by their two parts.
-const BUILTIN_TYPES: [(&str, &str); 56] = [
+static BUILTIN_TYPES: [(&str, &str); 56] = [
     ("v", "void"),
     ("w", "wchar_t"),
     ("b", "bool"),
@@ -122,7 +123,7 @@ const BUILTIN_TYPES: [(&str, &str); 56] = [
 ];
 
 /// The abbreviations of the ABI, section 5.1.10, that the original reads: word, text, and the constructors' name.
-const COMPONENTS: [(&str, &str, Option<&str>); 7] = [
+static COMPONENTS: [(&str, &str, Option<&str>); 7] = [
     ("St", "std", None),
     ("Sa", "std::allocator", Some("allocator")),
     ("Sb", "std::basic_string", Some("basic_string")),
@@ -140,56 +141,60 @@ const COMPONENTS: [(&str, &str, Option<&str>); 7] = [
     ),
 ];
 
+fn first(word: &str) -> Option<u8> {
+    word.as_bytes().first().copied()
+}
+
 #[test]
 fn operators_are_as_listed(rt: HostRuntime) -> std::result::Result<(), Fail> {
-    for (word, text, arity) in OPERATORS {
+    for (word, text, arity) in &OPERATORS {
         let (operator, rest) = SimpleOperatorName::read_word(IndexStr::new(word.as_bytes()))?;
-        assert!(rt; rest.is_empty(), "at {word}");
-        assert_eq!(rt; operator.text(), text);
-        assert_eq!(rt; operator.arity(), arity, "at {word}");
-        assert!(rt;
-            word.as_bytes()
-                .first()
-                .is_some_and(|byte| SimpleOperatorName::starts_with(*byte)),
-            "at {word}"
-        );
+        let begins = first(*word).is_some_and(|byte| SimpleOperatorName::starts_with(byte));
+        holds(&rt, *word, rest.is_empty() && begins);
+        same(&rt, *word, operator.text(), *text);
+        same(&rt, *word, operator.arity(), *arity);
     }
-    assert_eq!(rt; SimpleOperatorName::New.number(), 0);
-    assert_eq!(rt; SimpleOperatorName::Spaceship.number(), 47);
+    same(&rt, "nw", SimpleOperatorName::New.number(), 0);
+    same(&rt, "ss", SimpleOperatorName::Spaceship.number(), 47);
     Ok(())
 }
 
 #[test]
 fn builtin_types_are_as_listed(rt: HostRuntime) -> std::result::Result<(), Fail> {
-    for (word, text) in BUILTIN_TYPES {
+    for (word, text) in &BUILTIN_TYPES {
         let (builtin, rest) = StandardBuiltinType::read_word(IndexStr::new(word.as_bytes()))?;
-        assert!(rt; rest.is_empty(), "at {word}");
-        assert_eq!(rt; builtin.text(), text);
-        assert!(rt;
-            word.as_bytes()
-                .first()
-                .is_some_and(|byte| StandardBuiltinType::starts_with(*byte)),
-            "at {word}"
-        );
+        let begins = first(*word).is_some_and(|byte| StandardBuiltinType::starts_with(byte));
+        holds(&rt, *word, rest.is_empty() && begins);
+        same(&rt, *word, builtin.text(), *text);
     }
-    assert_eq!(rt; StandardBuiltinType::Void.number(), 0);
-    assert_eq!(rt; StandardBuiltinType::SatFractULong.number(), 55);
+    same(&rt, "v", StandardBuiltinType::Void.number(), 0);
+    same(
+        &rt,
+        "DSDRm",
+        StandardBuiltinType::SatFractULong.number(),
+        55,
+    );
     Ok(())
+}
+
+// A component's leaf name, where it has one.
+fn leaf_of(component: WellKnownComponent) -> Option<&'static str> {
+    match component {
+        WellKnownComponent::Std => None,
+        _ => Some(component.leaf_text()),
+    }
 }
 
 #[test]
 fn components_are_as_listed(rt: HostRuntime) -> std::result::Result<(), Fail> {
-    for (word, text, leaf) in COMPONENTS {
+    for (word, text, leaf) in &COMPONENTS {
         let (component, rest) = WellKnownComponent::read_word(IndexStr::new(word.as_bytes()))?;
-        assert!(rt; rest.is_empty(), "at {word}");
-        assert_eq!(rt; component.text(), text);
-        match component {
-            WellKnownComponent::Std => assert_eq!(rt; leaf, None),
-            _ => assert_eq!(rt; Some(component.leaf_text()), leaf),
-        }
+        holds(&rt, *word, rest.is_empty());
+        same(&rt, *word, component.text(), *text);
+        same(&rt, *word, leaf_of(component), *leaf);
     }
-    assert!(rt; WellKnownComponent::starts_with(b'S'));
-    assert_eq!(rt; WellKnownComponent::StdIostream.number(), 6);
+    holds(&rt, "S", WellKnownComponent::starts_with(b'S'));
+    same(&rt, "Sd", WellKnownComponent::StdIostream.number(), 6);
     Ok(())
 }
 
@@ -197,42 +202,45 @@ fn components_are_as_listed(rt: HostRuntime) -> std::result::Result<(), Fail> {
 fn qualifiers_are_as_listed(rt: HostRuntime) -> std::result::Result<(), Fail> {
     let (lvalue, rest) = RefQualifier::read_word(IndexStr::new(b"RO"))?;
     let (rvalue, rest) = RefQualifier::read_word(rest)?;
-    assert!(rt; rest.is_empty());
-    assert_eq!(rt; (lvalue.text(), lvalue.number()), ("&", 0));
-    assert_eq!(rt; (rvalue.text(), rvalue.number()), ("&&", 1));
-    assert!(rt; RefQualifier::starts_with(b'O'));
+    holds(&rt, "RO", rest.is_empty());
+    same(&rt, "R", (lvalue.text(), lvalue.number()), ("&", 0));
+    same(&rt, "O", (rvalue.text(), rvalue.number()), ("&&", 1));
+    holds(&rt, "O", RefQualifier::starts_with(b'O'));
     let (explicit, rest) = ExplicitObjectParameter::read_word(IndexStr::new(b"H1a"))?;
-    assert!(rt; rest.eq_bytes(b"1a"));
-    assert_eq!(rt; (explicit.text(), explicit.number()), ("this", 0));
-    assert!(rt; ExplicitObjectParameter::starts_with(b'H'));
+    holds(&rt, "H1a", rest.eq_bytes(b"1a"));
+    same(&rt, "H", (explicit.text(), explicit.number()), ("this", 0));
+    holds(&rt, "H", ExplicitObjectParameter::starts_with(b'H'));
     no_word_is_a_prefix();
     the_word_at_the_front_is_read();
     Ok(())
 }
 
+/// Texts, and the builtin type at their front with what is behind it.
+static REFUSED: [(&str, Result<(StandardBuiltinType, &str)>); 8] = [
+    ("", Err(Error::UnexpectedEnd)),
+    ("D", Err(Error::UnexpectedEnd)),
+    ("DF1", Err(Error::UnexpectedEnd)),
+    ("DSD", Err(Error::UnexpectedEnd)),
+    ("DQ", Err(Error::UnexpectedText)),
+    ("DF17", Err(Error::UnexpectedText)),
+    ("q", Err(Error::UnexpectedText)),
+    ("DF16bx", Ok((StandardBuiltinType::BFloat16, "x"))),
+];
+
+fn is_builtin_type(text: &str, want: Result<(StandardBuiltinType, &str)>) -> bool {
+    let answer = StandardBuiltinType::read_word(IndexStr::new(text.as_bytes()));
+    match (answer, want) {
+        (Ok((builtin, rest)), Ok((wanted, left))) => {
+            builtin == wanted && rest.eq_bytes(left.as_bytes())
+        }
+        (Err(error), Err(wanted)) => error == wanted,
+        _ => false,
+    }
+}
+
 #[test]
 fn builtin_types_are_refused_as_the_grammar_says(rt: HostRuntime) {
-    let cases: [(&str, Result<(StandardBuiltinType, &str)>); 8] = [
-        ("", Err(Error::UnexpectedEnd)),
-        ("D", Err(Error::UnexpectedEnd)),
-        ("DF1", Err(Error::UnexpectedEnd)),
-        ("DSD", Err(Error::UnexpectedEnd)),
-        ("DQ", Err(Error::UnexpectedText)),
-        ("DF17", Err(Error::UnexpectedText)),
-        ("q", Err(Error::UnexpectedText)),
-        ("DF16bx", Ok((StandardBuiltinType::BFloat16, "x"))),
-    ];
-    for (text, want) in cases {
-        match (
-            StandardBuiltinType::read_word(IndexStr::new(text.as_bytes())),
-            want,
-        ) {
-            (Ok((builtin, rest)), Ok((wanted, left))) => {
-                assert_eq!(rt; builtin, wanted);
-                assert!(rt; rest.eq_bytes(left.as_bytes()), "at {text}");
-            }
-            (Err(error), Err(wanted)) => assert_eq!(rt; error, wanted, "at {text}"),
-            _ => assert!(rt; false, "at {text}"),
-        }
+    for (text, want) in &REFUSED {
+        holds(&rt, *text, is_builtin_type(*text, *want));
     }
 }
