@@ -12,26 +12,30 @@ fn words_of(alloc: Global, words: &[&str]) -> Result<Vec<String>, Fail> {
     Ok(all)
 }
 
+/// Words of several kinds.
+static WORDS: [&str; 7] = [
+    "cppfilt",
+    "-wp",
+    "--print-limit",
+    "7",
+    "--max-output=9",
+    "a",
+    "b",
+];
+
 #[test]
 fn words_ask_for_tasks(rt: HostRuntime) -> Result<(), Fail> {
-    let given = [
-        "cppfilt",
-        "-wp",
-        "--print-limit",
-        "7",
-        "--max-output=9",
-        "a",
-        "b",
-    ];
-    let words = words_of(rt.alloc(), given.as_slice())?;
+    let words = words_of(rt.alloc(), &WORDS)?;
     let request = judge(rt.alloc(), words.as_slice())
         .ok()
         .ok_or("no request")?;
     let options = request.options;
     assert!(rt; options.why && !options.types);
-    assert_eq!(rt; options.parse.limit(), 96);
-    assert_eq!(rt; options.print.limit(), 7);
-    assert_eq!(rt; options.print.output_bytes(), Some(9usize));
+    let levels = (options.parse.limit(), options.print.limit());
+    assert_eq!(rt;
+        (levels, options.print.output_bytes()),
+        ((96, 7), Some(9usize))
+    );
     match &request.task {
         Task::Names(names) => assert_eq!(rt; names.as_slice(), ["a", "b"].as_slice()),
         _ => assert!(rt; false, "other than names"),
