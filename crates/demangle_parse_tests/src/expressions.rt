@@ -3,7 +3,7 @@
 use crate::answers::Reading;
 
 /// One node or more of each row.
-pub const EXPRESSIONS: [Reading; 19] = [
+pub static EXPRESSIONS: [Reading; 19] = [
     ("Expression", b"tr", "Rethrow, left 0, entries 0 0"),
     (
         "Expression",

@@ -3,7 +3,7 @@
 use crate::answers::Reading;
 
 /// One node or more of each row.
-pub const LEAVES: [Reading; 26] = [
+pub static LEAVES: [Reading; 26] = [
     ("Number", b"n12", "-12, left 0, entries 0 0"),
     ("SeqId", b"6E", "SeqId(230), left 0, entries 0 0"),
     ("NvOffset", b"n8", "NvOffset(-8), left 0, entries 0 0"),

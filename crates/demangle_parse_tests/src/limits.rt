@@ -3,7 +3,7 @@
 use crate::answers::Reading;
 
 /// Each reading with as many levels as it needs, and with one less: what is only tried enters its levels too.
-pub const LIMITS: [(u32, Reading); 24] = [
+pub static LIMITS: [(u32, Reading); 24] = [
     (4, ("MangledName", b"i", "TooMuchRecursion, entries 0 0")),
     (
         5,

@@ -3,7 +3,7 @@
 use crate::answers::Reading;
 
 /// One node or more of each row.
-pub const NAMES: [Reading; 32] = [
+pub static NAMES: [Reading; 32] = [
     (
         "Name",
         b"mm",

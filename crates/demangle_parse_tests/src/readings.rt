@@ -1,6 +1,7 @@
 //! The tests: tables of readings, and readings from one table.
 
 use crate::answers::{Reading, first_wrong, first_wrong_in_turn, first_wrong_under};
+use crate::checks::same;
 use crate::expressions::EXPRESSIONS;
 use crate::leaves::LEAVES;
 use crate::limits::LIMITS;
@@ -11,7 +12,7 @@ use demangle_leaf_rows::ParseContext;
 use demangle_text::ParseOptions;
 
 /// Entries are added behind those that were there, and a refusal leaves them.
-const ONE_TABLE: [Reading; 9] = [
+static ONE_TABLE: [Reading; 9] = [
     ("TypeHandle", b"1a", "BackReference(0), left 0, entries 1 0"),
     (
         "TypeHandle",
@@ -44,7 +45,7 @@ const ONE_TABLE: [Reading; 9] = [
 ];
 
 /// What is read ahead behind the type of a conversion is given back, and only then may be the operator's.
-const CONVERSIONS: [Reading; 2] = [
+static CONVERSIONS: [Reading; 2] = [
     (
         "TypeHandle",
         b"T_I1aE",
@@ -58,7 +59,7 @@ const CONVERSIONS: [Reading; 2] = [
 ];
 
 /// A level that was entered counts.
-const ONE_LEVEL: [Reading; 2] = [
+static ONE_LEVEL: [Reading; 2] = [
     ("TypeHandle", b"i", "TooMuchRecursion, entries 0 0"),
     ("BuiltinType", b"i", "Standard(Int), left 0, entries 0 0"),
 ];
@@ -66,27 +67,30 @@ const ONE_LEVEL: [Reading; 2] = [
 #[test]
 fn each_row_is_read(rt: HostRuntime) {
     let alloc = rt.alloc();
-    assert_eq!(rt; first_wrong(alloc, &LEAVES), None);
-    assert_eq!(rt; first_wrong(alloc, &NAMES), None);
-    assert_eq!(rt; first_wrong(alloc, &TYPES), None);
-    assert_eq!(rt; first_wrong(alloc, &EXPRESSIONS), None);
-    assert_eq!(rt; first_wrong(alloc, &WHOLE_NAMES), None);
+    same(&rt, "leaves", first_wrong(alloc, &LEAVES), None);
+    same(&rt, "names", first_wrong(alloc, &NAMES), None);
+    same(&rt, "types", first_wrong(alloc, &TYPES), None);
+    same(&rt, "expressions", first_wrong(alloc, &EXPRESSIONS), None);
+    same(&rt, "whole names", first_wrong(alloc, &WHOLE_NAMES), None);
 }
 
 #[test]
 fn levels_are_counted_in_what_is_tried(rt: HostRuntime) {
-    assert_eq!(rt; first_wrong_under(rt.alloc(), &LIMITS), None);
+    same(&rt, "limits", first_wrong_under(rt.alloc(), &LIMITS), None);
 }
 
 #[test]
 fn tables_and_contexts_are_shared(rt: HostRuntime) {
     let alloc = rt.alloc();
     let mut ctx = ParseContext::new(ParseOptions::default());
-    assert_eq!(rt; first_wrong_in_turn(alloc, &mut ctx, &ONE_TABLE), None);
+    let wrong = first_wrong_in_turn(alloc, &mut ctx, &ONE_TABLE);
+    same(&rt, "one table", wrong, None);
     let was_on = ctx.set_in_conversion(true);
-    assert!(rt; !was_on);
-    assert_eq!(rt; first_wrong_in_turn(alloc, &mut ctx, &CONVERSIONS), None);
+    same(&rt, "the flag", was_on, false);
+    let wrong = first_wrong_in_turn(alloc, &mut ctx, &CONVERSIONS);
+    same(&rt, "conversions", wrong, None);
     let mut ctx = ParseContext::new(ParseOptions::default().recursion_limit(4));
-    assert_eq!(rt; ctx.enter(), Ok(()));
-    assert_eq!(rt; first_wrong_in_turn(alloc, &mut ctx, &ONE_LEVEL), None);
+    same(&rt, "a level", ctx.enter(), Ok(()));
+    let wrong = first_wrong_in_turn(alloc, &mut ctx, &ONE_LEVEL);
+    same(&rt, "one level", wrong, None);
 }

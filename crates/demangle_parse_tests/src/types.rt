@@ -3,7 +3,7 @@
 use crate::answers::Reading;
 
 /// One node or more of each row.
-pub const TYPES: [Reading; 25] = [
+pub static TYPES: [Reading; 25] = [
     ("TypeHandle", b"Pi", "BackReference(0), left 0, entries 1 0"),
     (
         "TypeHandle",

@@ -3,7 +3,7 @@
 use crate::answers::Reading;
 
 /// The last alternative that was tried tells the kind; components are numbered as they are completed.
-pub const WHOLE_NAMES: [Reading; 13] = [
+pub static WHOLE_NAMES: [Reading; 13] = [
     ("MangledName", b"", "UnexpectedEnd, entries 0 0"),
     ("MangledName", b"_Z", "UnexpectedEnd, entries 0 0"),
     ("MangledName", b"Q", "UnexpectedEnd, entries 0 0"),
