@@ -1,6 +1,6 @@
 //! The tests: tables of readings, and readings from one table.
 
-use crate::answers::{Reading, first_wrong, first_wrong_in_turn, first_wrong_under};
+use crate::answers::{Reading, Row, first_wrong, first_wrong_in_turn, first_wrong_under};
 use crate::checks::same;
 use crate::expressions::EXPRESSIONS;
 use crate::leaves::LEAVES;
@@ -13,32 +13,36 @@ use demangle_text::ParseOptions;
 
 /// Entries are added behind those that were there, and a refusal leaves them.
 static ONE_TABLE: [Reading; 9] = [
-    ("TypeHandle", b"1a", "BackReference(0), left 0, entries 1 0"),
     (
-        "TypeHandle",
+        Row::TypeHandle,
+        b"1a",
+        "BackReference(0), left 0, entries 1 0",
+    ),
+    (
+        Row::TypeHandle,
         b"PS_",
         "BackReference(1), left 0, entries 2 0",
     ),
     (
-        "Substitution",
+        Row::Substitution,
         b"S0_E",
         "BackReference(1), left 1, entries 2 0",
     ),
-    ("TypeHandle", b"FPS_", "UnexpectedText, entries 2 0"),
-    ("TypeHandle", b"S1_", "UnexpectedText, entries 2 0"),
-    ("Substitution", b"S1_", "BadBackReference, entries 2 0"),
+    (Row::TypeHandle, b"FPS_", "UnexpectedText, entries 2 0"),
+    (Row::TypeHandle, b"S1_", "UnexpectedText, entries 2 0"),
+    (Row::Substitution, b"S1_", "BadBackReference, entries 2 0"),
     (
-        "TypeHandle",
+        Row::TypeHandle,
         b"FS_S0_E",
         "BackReference(2), left 0, entries 3 0",
     ),
     (
-        "TemplateArg",
+        Row::TemplateArg,
         b"S1_",
         "TypeArg(BackReference(2)), left 0, entries 3 0",
     ),
     (
-        "PrefixHandle",
+        Row::PrefixHandle,
         b"S_1bE",
         "NonSubstitution(NonSubstitution(0)), left 1, entries 3 1",
     ),
@@ -47,12 +51,12 @@ static ONE_TABLE: [Reading; 9] = [
 /// What is read ahead behind the type of a conversion is given back, and only then may be the operator's.
 static CONVERSIONS: [Reading; 2] = [
     (
-        "TypeHandle",
+        Row::TypeHandle,
         b"T_I1aE",
         "BackReference(0), left 4, entries 1 0",
     ),
     (
-        "TypeHandle",
+        Row::TypeHandle,
         b"T_I1aEIcE",
         "BackReference(3), left 3, entries 4 0",
     ),
@@ -60,8 +64,8 @@ static CONVERSIONS: [Reading; 2] = [
 
 /// A level that was entered counts.
 static ONE_LEVEL: [Reading; 2] = [
-    ("TypeHandle", b"i", "TooMuchRecursion, entries 0 0"),
-    ("BuiltinType", b"i", "Standard(Int), left 0, entries 0 0"),
+    (Row::TypeHandle, b"i", "TooMuchRecursion, entries 0 0"),
+    (Row::BuiltinType, b"i", "Standard(Int), left 0, entries 0 0"),
 ];
 
 #[test]
