@@ -1,6 +1,7 @@
 //! Components of tables that are read, and the tables: their copies, their comparison with others that are read apart,
 //! and worked texts of `{:?}`.
 
+use crate::checks::same;
 use crate::reading::{component, table_of};
 use crate::rows::{is_copied, is_shown};
 use crate::wholes::Whole;
@@ -16,7 +17,7 @@ type Component = (&'static [u8], usize);
 type Case = (Component, Component, bool, bool);
 
 /// Components of all kinds. The places of lists of arguments are left out by equality.
-const CASES: [Case; 14] = [
+static CASES: [Case; 14] = [
     ((b"AfLplLi1Etwtr_i", 0), (b"AfLplLi1Etwtr_i", 0), true, true),
     (
         (b"AfLplLi1Etwtr_i", 0),
@@ -59,7 +60,7 @@ const CASES: [Case; 14] = [
 ];
 
 /// Types, and the texts of their tables.
-const TEXTS: [(&[u8], &str); 5] = [
+static TEXTS: [(&[u8], &str); 5] = [
     (
         b"i",
         "SubstitutionTable { substitutions: [], non_substitutions: [] }",
@@ -132,11 +133,8 @@ fn judged(alloc: Global, one: Component, other: Component) -> Option<(bool, bool
 #[test]
 fn components_and_tables_read_apart_are_copied_and_compared(rt: HostRuntime) {
     for (i, (one, other, are_equal, are_tables_equal)) in CASES.iter().enumerate() {
-        assert_eq!(rt;
-            judged(rt.alloc(), *one, *other),
-            Some((*are_equal, *are_tables_equal, true)),
-            "case {i}"
-        );
+        let wanted = Some((*are_equal, *are_tables_equal, true));
+        same(&rt, i, judged(rt.alloc(), *one, *other), wanted);
     }
 }
 
@@ -150,6 +148,6 @@ fn has_text(alloc: Global, bytes: &[u8], text: &str) -> Option<bool> {
 #[test]
 fn tables_are_shown(rt: HostRuntime) {
     for (i, (bytes, text)) in TEXTS.iter().enumerate() {
-        assert_eq!(rt; has_text(rt.alloc(), *bytes, *text), Some(true), "text {i}");
+        same(&rt, i, has_text(rt.alloc(), *bytes, *text), Some(true));
     }
 }

@@ -1,5 +1,6 @@
 //! Inner items: what node each borrows.
 
+use crate::checks::same;
 use crate::reading::table_of;
 use demangle_entries::{ClassEnumType, LocalName, Name, TypeHandle, TypeNode};
 use demangle_release::release_table;
@@ -13,7 +14,7 @@ type Kinds = [bool; 5];
 const TYPES: &[u8] = b"FvPiKiA3_iMiiDv4_iKFivEFYivEZ1fvE1aE";
 
 /// A component, the kinds of it, and those of what it holds.
-const CASES: [(usize, Kinds, Kinds); 8] = [
+static CASES: [(usize, Kinds, Kinds); 8] = [
     (
         0,
         [true, false, false, false, false],
@@ -103,5 +104,5 @@ fn wrong(alloc: Global) -> Option<Option<usize>> {
 
 #[test]
 fn an_item_answers_for_its_node(rt: HostRuntime) {
-    assert_eq!(rt; wrong(rt.alloc()), Some(None));
+    same(&rt, "all", wrong(rt.alloc()), Some(None));
 }

@@ -1,5 +1,6 @@
 //! The look-ups through the table.
 
+use crate::checks::same;
 use crate::reading::{component, table_of};
 use crate::rows::is_shown;
 use demangle_entries::{
@@ -51,7 +52,7 @@ pub const NOTHING: &str = "None";
 type Case = (&'static [u8], Of, Found);
 
 /// Handles to a class, to a template, to a list of arguments, to no component and to known ones.
-const HANDLES: [Case; 14] = [
+static HANDLES: [Case; 14] = [
     (
         b"N1a1bE",
         Of::Prefix(PrefixHandle::BackReference(0)),
@@ -122,7 +123,7 @@ const HANDLES: [Case; 14] = [
 
 /// Names, what they hold, and components. A constructor alone has no leaf name, one in a class has the class's. A
 /// nested name is a constructor where its prefix is, as in the original.
-const NAMES: [Case; 17] = [
+static NAMES: [Case; 17] = [
     (b"1a", Of::Name, (AT_1, None, false)),
     (b"1aIiE", Of::Name, (AT_1, Some(2), false)),
     (b"N1a1bIiEE", Of::Name, (AT_4, Some(5), false)),
@@ -237,15 +238,20 @@ fn is_found(alloc: Global, bytes: &[u8], of: Of, wanted: Found) -> Option<bool> 
     Some(is_found)
 }
 
+/// The number of the first case that comes out otherwise.
+fn first_other(alloc: Global, cases: &[Case]) -> Option<usize> {
+    for (i, (bytes, of, wanted)) in cases.iter().enumerate() {
+        if is_found(alloc, *bytes, *of, *wanted) != Some(true) {
+            return Some(i);
+        }
+    }
+    None
+}
+
 #[test]
 fn the_table_is_looked_through(rt: HostRuntime) {
-    for (i, (bytes, of, wanted)) in HANDLES.iter().chain(&NAMES).enumerate() {
-        assert_eq!(rt;
-            is_found(rt.alloc(), *bytes, *of, *wanted),
-            Some(true),
-            "case {i}"
-        );
-    }
+    same(&rt, "handles", first_other(rt.alloc(), &HANDLES), None);
+    same(&rt, "names", first_other(rt.alloc(), &NAMES), None);
 }
 
 /// Whether the nested name has an explicit object, qualifiers and a ref-qualifier.
@@ -263,12 +269,19 @@ fn fields(alloc: Global, bytes: &[u8]) -> Option<(bool, bool, bool)> {
     fields
 }
 
+/// Nested names, and the same of them.
+static FIELDS: [(&[u8], (bool, bool, bool)); 3] = [
+    (b"NKR1aC1E", (false, true, true)),
+    (b"N1a1bIiEE", (false, true, false)),
+    (b"NH1a1bE", (true, false, false)),
+];
+
 #[test]
 fn a_nested_name_gives_its_fields(rt: HostRuntime) {
     let alloc = rt.alloc();
-    assert_eq!(rt; fields(alloc, b"NKR1aC1E"), Some((false, true, true)));
-    assert_eq!(rt; fields(alloc, b"N1a1bIiEE"), Some((false, true, false)));
-    assert_eq!(rt; fields(alloc, b"NH1a1bE"), Some((true, false, false)));
+    for (bytes, wanted) in &FIELDS {
+        same(&rt, *bytes, fields(alloc, *bytes), Some(*wanted));
+    }
 }
 
 /// How many links the long chain has.
@@ -290,8 +303,6 @@ fn a_long_chain_takes_no_stack(rt: HostRuntime) {
     let alloc = rt.alloc();
     let bytes = chain(alloc).expect(&rt, "memory");
     let end = Of::Prefix(PrefixHandle::BackReference(MANY));
-    assert_eq!(rt;
-        is_found(alloc, bytes.as_slice(), end, (AT_2, None, true)),
-        Some(true)
-    );
+    let found = is_found(alloc, bytes.as_slice(), end, (AT_2, None, true));
+    same(&rt, "the chain", found, Some(true));
 }

@@ -1,6 +1,7 @@
 //! Nodes by the rows that they are read by: their copies, their comparison with others that are read apart, and worked
 //! texts of `{:?}`, which no clause states.
 
+use crate::checks::same;
 use crate::reading::read;
 use crate::wholes::Whole;
 use demangle_discard::Discard;
@@ -20,7 +21,7 @@ use std::fmt::Debug;
 type Case = (&'static str, &'static [u8], &'static [u8], bool);
 
 /// Each node is copied too, and each part whose type has a copy of its own. Blanks at the front move what is read.
-const CASES: [Case; 36] = [
+static CASES: [Case; 36] = [
     ("AbiTags", b"B3foo", b"B3foo", true),
     ("CloneSuffix", b".clone.12", b".clone.1", false),
     ("BareFunctionType", b"iPi", b"ii", false),
@@ -145,10 +146,6 @@ fn answer(alloc: Global, case: Case) -> Option<(bool, bool)> {
 fn nodes_read_apart_are_copied_and_compared(rt: HostRuntime) {
     for (i, case) in CASES.iter().enumerate() {
         let (_, _, _, are_equal) = *case;
-        assert_eq!(rt;
-            answer(rt.alloc(), *case),
-            Some((true, are_equal)),
-            "case {i}"
-        );
+        same(&rt, i, answer(rt.alloc(), *case), Some((true, are_equal)));
     }
 }

@@ -1,5 +1,6 @@
 //! Scopes: the look-ups, and the mark of a list.
 
+use crate::checks::same;
 use crate::reading::table_of;
 use crate::worked::INT;
 use demangle_entries::{
@@ -57,7 +58,7 @@ const NO_LEAF: Result<SourceName, Error> = Err(Error::BadLeafNameReference);
 
 /// A list that is being printed hides what follows; another doesn't. The newest list that has the member gives it. A
 /// leaf name is found behind a list.
-const CASES: [Case; 10] = [
+static CASES: [Case; 10] = [
     (
         (&[], None),
         0,
@@ -185,5 +186,5 @@ fn wrong(alloc: Global) -> Option<Option<usize>> {
 
 #[test]
 fn a_scope_gives_what_its_entries_have(rt: HostRuntime) {
-    assert_eq!(rt; wrong(rt.alloc()), Some(None));
+    same(&rt, "all", wrong(rt.alloc()), Some(None));
 }

@@ -1,5 +1,6 @@
 //! Tables that are made by hand, call by call, and what no reading gives: references that go round or to nothing.
 
+use crate::checks::same;
 use crate::components::is_table_copied;
 use crate::lookups::{NOTHING, Of, is_found_in};
 use demangle_discard::Discard;
@@ -44,7 +45,7 @@ enum Answer {
 type Line = (Step, Answer, &'static [Component], &'static [Component]);
 
 /// All calls that change a table.
-const SCRIPT: [Line; 14] = [
+static SCRIPT: [Line; 14] = [
     (Step::Pop, Answer::Nothing, &[], &[]),
     (
         Step::Insert(Component::Pointer),
@@ -219,7 +220,7 @@ fn first_wrong(alloc: Global, script: &[Line]) -> Option<usize> {
 
 #[test]
 fn the_calls_of_the_table_one_after_another(rt: HostRuntime) {
-    assert_eq!(rt; first_wrong(rt.alloc(), &SCRIPT), None);
+    same(&rt, "the calls", first_wrong(rt.alloc(), &SCRIPT), None);
 }
 
 /// A table behind these insertions.
@@ -235,7 +236,7 @@ fn table_after(alloc: Global, steps: &[Step]) -> SubstitutionTable {
 type Pair = (&'static [Step], &'static [Step], bool);
 
 /// The order between the lists is left out by equality.
-const PAIRS: [Pair; 3] = [
+static PAIRS: [Pair; 3] = [
     (&[], &[], true),
     (&[], &[Step::InsertOther(Component::Class)], false),
     (
@@ -267,11 +268,8 @@ fn compared(alloc: Global, steps: &[Step], other: &[Step]) -> (bool, bool) {
 #[test]
 fn the_order_between_the_lists_is_left_out_by_equality(rt: HostRuntime) {
     for (i, (steps, other, are_equal)) in PAIRS.iter().enumerate() {
-        assert_eq!(rt;
-            compared(rt.alloc(), *steps, *other),
-            (*are_equal, true),
-            "pair {i}"
-        );
+        let found = compared(rt.alloc(), *steps, *other);
+        same(&rt, i, found, (*are_equal, true));
     }
 }
 
@@ -291,11 +289,11 @@ fn is_list_held(alloc: Global) -> bool {
 
 #[test]
 fn a_list_becomes_a_table(rt: HostRuntime) {
-    assert!(rt; is_list_held(rt.alloc()));
+    same(&rt, "the list", is_list_held(rt.alloc()), true);
 }
 
 /// References that go round, in one component and in two, and one to nothing.
-const ROUNDS: [&[Step]; 3] = [
+static ROUNDS: [&[Step]; 3] = [
     &[Step::Insert(Component::Link(0))],
     &[
         Step::Insert(Component::Link(1)),
@@ -316,6 +314,6 @@ fn has_no_leaf(alloc: Global, steps: &[Step]) -> bool {
 #[test]
 fn references_that_go_round_have_no_leaf(rt: HostRuntime) {
     for (i, steps) in ROUNDS.iter().enumerate() {
-        assert!(rt; has_no_leaf(rt.alloc(), *steps), "table {i}");
+        same(&rt, i, has_no_leaf(rt.alloc(), *steps), true);
     }
 }
