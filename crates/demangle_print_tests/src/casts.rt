@@ -1,5 +1,6 @@
 //! Of which kind a node is.
 
+use crate::checks::same;
 use crate::printed::read_type;
 use demangle_print::DemangleAsInner;
 use demangle_release::release_table;
@@ -11,7 +12,7 @@ use std::alloc::Global;
 type Kinds = [bool; 5];
 
 /// Types, of which kinds each is, and of which kinds what it holds.
-const CASES: [(&[u8], Kinds, Kinds); 6] = [
+static CASES: [(&[u8], Kinds, Kinds); 6] = [
     (
         b"Pi",
         [true, false, false, false, false],
@@ -78,11 +79,8 @@ fn kinds_of(alloc: Global, bytes: &[u8]) -> Option<(Kinds, Kinds)> {
 
 #[test]
 fn a_node_tells_its_kind(rt: HostRuntime) {
-    for (bytes, own, inside) in CASES {
-        assert_eq!(rt;
-            kinds_of(rt.alloc(), bytes),
-            Some((own, inside)),
-            "{bytes:?}"
-        );
+    for (bytes, own, inside) in &CASES {
+        let found = kinds_of(rt.alloc(), *bytes);
+        same(&rt, *bytes, found, Some((*own, *inside)));
     }
 }

@@ -1,5 +1,6 @@
 //! Where nodes begin and end in the text.
 
+use crate::checks::holds;
 use crate::listener::Listener;
 use crate::printed::print_name;
 use demangle_scope::{DemangleError, DemangleOptions};
@@ -7,7 +8,7 @@ use demangle_text::Error;
 use std::alloc::Global;
 
 /// Nodes of all kinds; also one in another of its kind.
-const EVENTS: [(&str, &str); 13] = [
+static EVENTS: [(&str, &str); 13] = [
     ("i", "int"),
     (
         "PFPN1a1bEvE",
@@ -61,7 +62,7 @@ const EVENTS: [(&str, &str); 13] = [
 ];
 
 /// Names of which a part refers to nothing, or is no text, and what is told before it.
-const FAULTS: [(&[u8], DemangleError, &str); 6] = [
+static FAULTS: [(&[u8], DemangleError, &str); 6] = [
     (
         b"_ZC1v",
         DemangleError::Reference(Error::BadLeafNameReference),
@@ -120,17 +121,15 @@ fn are_told_before(alloc: Global, name: &[u8], fault: DemangleError, events: &st
 
 #[test]
 fn a_listener_is_told_where_nodes_begin_and_end(rt: HostRuntime) {
-    for (name, events) in EVENTS {
-        assert!(rt; are_told(rt.alloc(), name, events), "{name}");
+    for (name, events) in &EVENTS {
+        holds(&rt, *name, are_told(rt.alloc(), *name, *events));
     }
 }
 
 #[test]
 fn what_stands_before_a_fault_is_told(rt: HostRuntime) {
-    for (name, fault, events) in FAULTS {
-        assert!(rt;
-            are_told_before(rt.alloc(), name, fault, events),
-            "before {events}"
-        );
+    for (name, fault, events) in &FAULTS {
+        let is_told = are_told_before(rt.alloc(), *name, *fault, *events);
+        holds(&rt, *events, is_told);
     }
 }

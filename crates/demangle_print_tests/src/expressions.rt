@@ -1,7 +1,7 @@
 //! Literals, expressions, and the names in them.
 
 /// Expressions of all kinds, mostly in results.
-pub const EXPRESSIONS: [(&str, &str); 52] = [
+pub static EXPRESSIONS: [(&str, &str); 52] = [
     ("_Z1fILin5EEvv", "void f<-5>()"),
     ("_Z1fILm5EEvv", "void f<(unsigned long)5>()"),
     ("_Z1fILb0EEvv", "void f<false>()"),

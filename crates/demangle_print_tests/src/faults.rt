@@ -1,5 +1,6 @@
 //! Listeners that refuse a piece of the text.
 
+use crate::checks::{holds, same};
 use crate::listener::Listener;
 use crate::printed::print_name;
 use demangle_scope::{DemangleError, DemangleOptions, SinkFault};
@@ -9,7 +10,7 @@ use std::alloc::Global;
 const MOST_WRITES: usize = 200;
 
 /// Names with nodes in nodes, with items that wait and are kept, with numbers and operators.
-const NAMES: [&str; 4] = [
+static NAMES: [&str; 4] = [
     "_ZN1a1bEv",
     "_ZN1AcvT_IiEI1CEEv",
     "_Z1fM1aKFvN1b1cEE",
@@ -41,20 +42,16 @@ fn writes(alloc: Global, name: &[u8], cause: SinkFault, wanted: DemangleError) -
 
 #[test]
 fn a_refused_write_ends_the_printing(rt: HostRuntime) {
-    for name in NAMES {
-        let failed = writes(
-            rt.alloc(),
-            name.as_bytes(),
-            SinkFault::Failed,
-            DemangleError::Sink,
-        );
-        assert!(rt; failed.unwrap_or(0) > 3, "{name}");
+    for name in &NAMES {
+        let bytes = name.as_bytes();
+        let failed = writes(rt.alloc(), bytes, SinkFault::Failed, DemangleError::Sink);
+        holds(&rt, *name, failed.unwrap_or(0) > 3);
         let refused = writes(
             rt.alloc(),
-            name.as_bytes(),
+            bytes,
             SinkFault::OutOfMemory,
             DemangleError::OutOfMemory,
         );
-        assert_eq!(rt; refused, failed, "{name}");
+        same(&rt, *name, refused, failed);
     }
 }

@@ -1,5 +1,6 @@
 //! Inner items: what of them stands behind, and what they make of the items that wait.
 
+use crate::checks::same;
 use crate::printed::{int, read_type};
 use demangle_print::{Demangle, demangle_args, demangle_inner};
 use demangle_release::release_table;
@@ -34,7 +35,7 @@ enum Call {
 type Case = (Call, &'static [Item], &'static str, usize);
 
 /// Of adjacent references there is one mark, that of the left one where there is one.
-const REFERENCES: [Case; 5] = [
+static REFERENCES: [Case; 5] = [
     (Call::Inner(Item::Right), &[], "&&", 0),
     (Call::Inner(Item::Left), &[], "&", 0),
     (
@@ -53,7 +54,7 @@ const REFERENCES: [Case; 5] = [
 ];
 
 /// Arrays and parameters take what waits, a type and other items leave it.
-const OTHERS: [Case; 16] = [
+static OTHERS: [Case; 16] = [
     (Call::Inner(Item::Pointer), &[Item::Array], "*", 1),
     (Call::Inner(Item::Constant), &[Item::Pointer], " const", 1),
     (Call::Inner(Item::Member), &[Item::Pointer], " int::*", 1),
@@ -186,5 +187,5 @@ fn others(alloc: Global) -> Option<(Option<usize>, Option<usize>)> {
 
 #[test]
 fn items_wait_for_what_takes_them(rt: HostRuntime) {
-    assert_eq!(rt; others(rt.alloc()), Some((None, None)));
+    same(&rt, "both", others(rt.alloc()), Some((None, None)));
 }

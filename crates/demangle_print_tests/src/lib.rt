@@ -5,6 +5,8 @@
 #[cfg(test)]
 mod casts;
 #[cfg(test)]
+mod checks;
+#[cfg(test)]
 mod events;
 #[cfg(test)]
 mod expressions;

@@ -1,11 +1,12 @@
 //! Options, and limits on levels and on the text.
 
+use crate::checks::holds;
 use crate::printed::is_printed;
 use demangle_scope::{DemangleError, DemangleOptions};
 use demangle_text::Error;
 
 /// Letters for options: no parameters, no result, no types of literals.
-const OPTIONS: [(&str, &str, &str); 17] = [
+static OPTIONS: [(&str, &str, &str); 17] = [
     ("p", "_Z1fIiEvT_", "void f<int>"),
     ("r", "_Z1fIiEvT_", "f<int>(int)"),
     ("l", "_Z1fIiEvT_", "void f<int>(int)"),
@@ -34,7 +35,7 @@ const OPTIONS: [(&str, &str, &str); 17] = [
 ];
 
 /// As many levels as a name needs, and one less.
-const LEVELS: [(u32, &[u8], Result<&str, DemangleError>); 16] = [
+static LEVELS: [(u32, &[u8], Result<&str, DemangleError>); 16] = [
     (3, b"i", Err(DemangleError::TooMuchRecursion)),
     (4, b"i", Ok("int")),
     (8, b"_ZN1a1bEv", Err(DemangleError::TooMuchRecursion)),
@@ -62,7 +63,7 @@ const LEVELS: [(u32, &[u8], Result<&str, DemangleError>); 16] = [
 ];
 
 /// As many bytes as a text has, and one less; the text is judged before what it stands for.
-const ROOMS: [(usize, &[u8], Result<&str, DemangleError>); 9] = [
+static ROOMS: [(usize, &[u8], Result<&str, DemangleError>); 9] = [
     (0, b"i", Err(DemangleError::TooLong)),
     (2, b"_Z1fv", Err(DemangleError::TooLong)),
     (3, b"_Z1fv", Ok("f()")),
@@ -96,33 +97,27 @@ fn options_of(letters: &str) -> DemangleOptions {
 
 #[test]
 fn options_leave_their_part_out(rt: HostRuntime) {
-    for (letters, name, text) in OPTIONS {
-        let options = options_of(letters);
-        assert!(rt;
-            is_printed(rt.alloc(), name.as_bytes(), options, Ok(text)),
-            "{letters} {name}"
-        );
+    for (letters, name, text) in &OPTIONS {
+        let options = options_of(*letters);
+        let is_right = is_printed(rt.alloc(), name.as_bytes(), options, Ok(*text));
+        holds(&rt, (*letters, *name), is_right);
     }
 }
 
 #[test]
 fn levels_are_counted(rt: HostRuntime) {
-    for (levels, name, answer) in LEVELS {
-        let options = DemangleOptions::new().recursion_limit(levels.max(1));
-        assert!(rt;
-            is_printed(rt.alloc(), name, options, answer),
-            "{levels} {answer:?}"
-        );
+    for (levels, name, answer) in &LEVELS {
+        let options = DemangleOptions::new().recursion_limit((*levels).max(1));
+        let is_right = is_printed(rt.alloc(), *name, options, *answer);
+        holds(&rt, (*levels, *answer), is_right);
     }
 }
 
 #[test]
 fn the_text_is_no_longer_than_its_limit(rt: HostRuntime) {
-    for (bytes, name, answer) in ROOMS {
-        let options = DemangleOptions::new().output_limit(bytes);
-        assert!(rt;
-            is_printed(rt.alloc(), name, options, answer),
-            "{bytes} {answer:?}"
-        );
+    for (bytes, name, answer) in &ROOMS {
+        let options = DemangleOptions::new().output_limit(*bytes);
+        let is_right = is_printed(rt.alloc(), *name, options, *answer);
+        holds(&rt, (*bytes, *answer), is_right);
     }
 }

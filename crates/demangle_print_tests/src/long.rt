@@ -1,5 +1,6 @@
 //! Long lists, long chains of references, which take no stack, and a name whose text would never end.
 
+use crate::checks::{holds, same};
 use crate::listener::Listener;
 use crate::printed::{int, is_printed, print_name, read_type, tell_type};
 use demangle_print::{Demangle, demangle_args};
@@ -52,10 +53,8 @@ fn long_length(alloc: Global) -> Option<usize> {
 
 #[test]
 fn a_long_list_is_printed(rt: HostRuntime) {
-    assert_eq!(rt;
-        long_length(rt.alloc()),
-        Some("(int)".len() + (MANY - 1) * ", int".len())
-    );
+    let length = "(int)".len() + (MANY - 1) * ", int".len();
+    same(&rt, "the list", long_length(rt.alloc()), Some(length));
 }
 
 /// The name of a class, and of so many constructors, each in what is before it.
@@ -112,7 +111,12 @@ fn chain_answers(alloc: Global) -> Option<(bool, bool)> {
 
 #[test]
 fn a_long_chain_takes_no_stack(rt: HostRuntime) {
-    assert_eq!(rt; chain_answers(rt.alloc()), Some((true, true)));
+    same(
+        &rt,
+        "the chain",
+        chain_answers(rt.alloc()),
+        Some((true, true)),
+    );
 }
 
 #[test]
@@ -120,9 +124,14 @@ fn a_text_without_end_is_stopped(rt: HostRuntime) {
     let alloc = rt.alloc();
     let options = DemangleOptions::new().recursion_limit(1024);
     let limited = options.output_limit(10_000);
-    assert!(rt; is_printed(alloc, DOUBLING, limited, Err(DemangleError::TooLong)));
+    let too_long = Err(DemangleError::TooLong);
+    holds(
+        &rt,
+        "a limit",
+        is_printed(alloc, DOUBLING, limited, too_long),
+    );
     let mut listener = Listener::refusing(alloc, 1_000, SinkFault::Failed);
     let answer = print_name(alloc, DOUBLING, options, &mut listener);
-    assert_eq!(rt; answer, Some(Err(DemangleError::Sink)));
-    assert!(rt; listener.is_in_order());
+    same(&rt, "a refusal", answer, Some(Err(DemangleError::Sink)));
+    holds(&rt, "a refusal", listener.is_in_order());
 }

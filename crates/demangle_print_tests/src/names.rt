@@ -1,7 +1,7 @@
 //! Names, prefixes, operators, constructors, local names and closures, and what stands before and behind a name.
 
 /// Names that differ in what they name.
-pub const NAMES: [(&str, &str); 44] = [
+pub static NAMES: [(&str, &str); 44] = [
     ("_Z1f", "f"),
     ("_ZN5space3fooEii", "space::foo(int, int)"),
     ("_ZN12_GLOBAL__N_11fEv", "(anonymous namespace)::f()"),

@@ -1,5 +1,6 @@
 //! Single nodes: what stands behind them, leaf names, flags, components.
 
+use crate::checks::same;
 use crate::printed::{constant, int, read_type};
 use demangle_print::{Demangle, DemangleAsInner, DemangleAsLeaf, demangle_args, demangle_inner};
 use demangle_release::release_table;
@@ -35,7 +36,7 @@ enum Call {
 /// A call, the type, and what it writes or answers.
 type Case = (Call, &'static [u8], Result<&'static str, DemangleError>);
 
-const CASES: [Case; 19] = [
+static CASES: [Case; 19] = [
     (Call::AsInner, b"Pi", Ok("*")),
     (Call::Inner, b"Pi", Ok("*")),
     (Call::Args, b"i", Ok("(int)")),
@@ -161,6 +162,6 @@ fn is_answer(alloc: Global, case: Case) -> Option<bool> {
 #[test]
 fn a_node_is_printed_by_itself(rt: HostRuntime) {
     for (i, case) in CASES.iter().enumerate() {
-        assert_eq!(rt; is_answer(rt.alloc(), *case), Some(true), "case {i}");
+        same(&rt, i, is_answer(rt.alloc(), *case), Some(true));
     }
 }

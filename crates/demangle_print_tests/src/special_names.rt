@@ -1,7 +1,7 @@
 //! Names of what compilers make themselves.
 
 /// Special names of all kinds.
-pub const SPECIAL_NAMES: [(&str, &str); 16] = [
+pub static SPECIAL_NAMES: [(&str, &str); 16] = [
     ("_ZTV1a", "{vtable(a)}"),
     ("_ZTT1a", "{vtt(a)}"),
     ("_ZTI1A", "typeinfo for A"),

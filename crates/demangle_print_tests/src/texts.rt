@@ -1,5 +1,6 @@
 //! The tests of whole names: their texts.
 
+use crate::checks::{holds, same};
 use crate::expressions::EXPRESSIONS;
 use crate::names::NAMES;
 use crate::printed::{first_other, print_type};
@@ -11,10 +12,15 @@ use std::alloc::Global;
 #[test]
 fn names_of_all_kinds_have_their_texts(rt: HostRuntime) {
     let alloc = rt.alloc();
-    assert_eq!(rt; first_other(alloc, &NAMES), None);
-    assert_eq!(rt; first_other(alloc, &TYPES), None);
-    assert_eq!(rt; first_other(alloc, &EXPRESSIONS), None);
-    assert_eq!(rt; first_other(alloc, &SPECIAL_NAMES), None);
+    same(&rt, "names", first_other(alloc, &NAMES), None);
+    same(&rt, "types", first_other(alloc, &TYPES), None);
+    same(&rt, "expressions", first_other(alloc, &EXPRESSIONS), None);
+    same(
+        &rt,
+        "special names",
+        first_other(alloc, &SPECIAL_NAMES),
+        None,
+    );
 }
 
 fn is_type_printed(alloc: Global, bytes: &[u8], text: &str) -> bool {
@@ -27,10 +33,8 @@ fn is_type_printed(alloc: Global, bytes: &[u8], text: &str) -> bool {
 
 #[test]
 fn a_type_is_printed_by_itself(rt: HostRuntime) {
-    for (bytes, text) in PLAIN_TYPES {
-        assert!(rt;
-            is_type_printed(rt.alloc(), bytes.as_bytes(), text),
-            "{bytes}"
-        );
+    for (bytes, text) in &PLAIN_TYPES {
+        let is_right = is_type_printed(rt.alloc(), bytes.as_bytes(), *text);
+        holds(&rt, *bytes, is_right);
     }
 }

@@ -1,7 +1,7 @@
 //! Types: what stands before a name that is declared, and what behind.
 
 /// Types of all kinds, mostly of parameters.
-pub const TYPES: [(&str, &str); 33] = [
+pub static TYPES: [(&str, &str); 33] = [
     ("_Z1fu3foo", "f(foo)"),
     (
         "_Z1fDF16_DF32xDB8_DU9_",
@@ -47,7 +47,7 @@ pub const TYPES: [(&str, &str); 33] = [
 ];
 
 /// Types that are read and printed by themselves.
-pub const PLAIN_TYPES: [(&str, &str); 7] = [
+pub static PLAIN_TYPES: [(&str, &str); 7] = [
     ("Pi", "int*"),
     ("PFivE", "int (*)()"),
     ("PFPFivEvE", "int (*(*)())()"),
