@@ -1,12 +1,14 @@
 //! Bytes and names without a text, and why they have none.
 
-use crate::texts::demangled;
+use crate::checks::same;
+use crate::texts::{becomes, demangled};
 use cpp_demangle::error::{DemangleError, Error};
 use cpp_demangle::{DemangleOptions, ParseOptions, SymbolFault, demangle_symbol};
+use std::alloc::Global;
 use std::test::Fail;
 
 /// Bytes that aren't a name, and why. The last ends only where delete isn't read again as an operator.
-const UNREAD: [(&[u8], Error); 16] = [
+static UNREAD: [(&[u8], Error); 16] = [
     (b"", Error::UnexpectedEnd),
     (b"_Z", Error::UnexpectedEnd),
     (b"Q", Error::UnexpectedEnd),
@@ -32,7 +34,7 @@ const UNREAD: [(&[u8], Error); 16] = [
 ];
 
 /// Names whose trees can't be printed, and why.
-const UNPRINTED: [(&[u8], DemangleError); 4] = [
+static UNPRINTED: [(&[u8], DemangleError); 4] = [
     (
         b"_ZC1v",
         DemangleError::Reference(Error::BadLeafNameReference),
@@ -59,7 +61,7 @@ const FORWARD: SymbolFault = SymbolFault::Print(DemangleError::Reference(
 ));
 
 /// Names, limits on the levels of reading, the levels of printing and the bytes of the text, and what becomes of them.
-const LIMITED: [(&[u8], u32, u32, usize, Result<&str, SymbolFault>); 18] = [
+static LIMITED: [(&[u8], u32, u32, usize, Result<&str, SymbolFault>); 18] = [
     (b"i", 4, 128, 99, Err(TOO_DEEP_TO_READ)),
     (b"i", 5, 128, 99, Ok("int")),
     (b"Pi", 9, 128, 99, Err(TOO_DEEP_TO_READ)),
@@ -82,60 +84,60 @@ const LIMITED: [(&[u8], u32, u32, usize, Result<&str, SymbolFault>); 18] = [
 
 #[test]
 fn other_bytes_are_refused_by_their_cause(rt: HostRuntime) {
-    for (name, error) in UNREAD {
-        let fault = demangled(rt.alloc(), name).err();
-        assert_eq!(rt; fault, Some(SymbolFault::Read(error)), "at {name:?}");
+    for (name, error) in &UNREAD {
+        let fault = demangled(rt.alloc(), *name).err();
+        same(&rt, *name, fault, Some(SymbolFault::Read(*error)));
     }
-    for (name, error) in UNPRINTED {
-        let fault = demangled(rt.alloc(), name).err();
-        assert_eq!(rt; fault, Some(SymbolFault::Print(error)), "at {name:?}");
+    for (name, error) in &UNPRINTED {
+        let fault = demangled(rt.alloc(), *name).err();
+        same(&rt, *name, fault, Some(SymbolFault::Print(*error)));
     }
 }
 
 #[test]
 fn a_limit_is_met_where_it_is_reached(rt: HostRuntime) {
-    for (name, read_levels, print_levels, bytes, want) in LIMITED {
-        let parse = ParseOptions::default().recursion_limit(read_levels.max(1));
+    for (name, read_levels, print_levels, bytes, want) in &LIMITED {
+        let parse = ParseOptions::default().recursion_limit((*read_levels).max(1));
         let print = DemangleOptions::new()
-            .recursion_limit(print_levels.max(1))
-            .output_limit(bytes);
-        let answer = demangle_symbol(rt.alloc(), name, &parse, &print);
-        assert_eq!(rt;
-            answer
-                .as_ref()
-                .map(|text| text.as_str())
-                .map_err(|fault| *fault),
-            want,
-            "at {name:?} with {read_levels}, {print_levels}, {bytes}"
-        );
+            .recursion_limit((*print_levels).max(1))
+            .output_limit(*bytes);
+        let answer = demangle_symbol(rt.alloc(), *name, &parse, &print);
+        let case = (*name, *read_levels, *print_levels, *bytes);
+        becomes(&rt, case, answer, *want);
     }
+}
+
+/// Faults of all kinds.
+static FAULTS: [SymbolFault; 11] = [
+    SymbolFault::Read(Error::UnexpectedEnd),
+    SymbolFault::Read(Error::UnexpectedText),
+    SymbolFault::Read(Error::Overflow),
+    TOO_DEEP_TO_READ,
+    SymbolFault::Print(DemangleError::Reference(Error::BadLeafNameReference)),
+    SymbolFault::Print(DemangleError::Reference(Error::BadTemplateArgReference)),
+    FORWARD,
+    TOO_DEEP_TO_PRINT,
+    SymbolFault::Print(DemangleError::NotUtf8),
+    TOO_LONG,
+    SymbolFault::OutOfMemory,
+];
+
+// The text of a name's fault.
+fn told(alloc: Global, name: &[u8]) -> Option<&'static str> {
+    demangled(alloc, name).err().map(|fault| fault.text())
 }
 
 #[test]
 fn faults_are_shown_as_they_say(rt: HostRuntime) -> Result<(), Fail> {
-    for fault in [
-        SymbolFault::Read(Error::UnexpectedEnd),
-        SymbolFault::Read(Error::UnexpectedText),
-        SymbolFault::Read(Error::Overflow),
-        TOO_DEEP_TO_READ,
-        SymbolFault::Print(DemangleError::Reference(Error::BadLeafNameReference)),
-        SymbolFault::Print(DemangleError::Reference(Error::BadTemplateArgReference)),
-        FORWARD,
-        TOO_DEEP_TO_PRINT,
-        SymbolFault::Print(DemangleError::NotUtf8),
-        TOO_LONG,
-        SymbolFault::OutOfMemory,
-    ] {
+    for fault in &FAULTS {
         let shown = format!(in rt.alloc(); "{fault}")?;
-        assert_eq!(rt; shown.as_str(), fault.text());
+        same(&rt, *fault, shown.as_str(), fault.text());
     }
-    for (name, error) in UNREAD {
-        let answer = demangled(rt.alloc(), name);
-        assert_eq!(rt; answer.err().map(|fault| fault.text()), Some(error.text()));
+    for (name, error) in &UNREAD {
+        same(&rt, *name, told(rt.alloc(), *name), Some(error.text()));
     }
-    for (name, error) in UNPRINTED {
-        let answer = demangled(rt.alloc(), name);
-        assert_eq!(rt; answer.err().map(|fault| fault.text()), Some(error.text()));
+    for (name, error) in &UNPRINTED {
+        same(&rt, *name, told(rt.alloc(), *name), Some(error.text()));
     }
     Ok(())
 }

@@ -1,10 +1,13 @@
 //! Texts of names, under the default options and under others.
 
+use crate::checks::same;
 use cpp_demangle::{DemangleOptions, ParseOptions, SymbolFault, demangle_symbol};
 use std::alloc::Global;
+use std::fmt::Debug;
+use std::process::Abort;
 
 /// Functions with one builtin type, each of one letter, in the ABI's order (section 5.1.5.2).
-const BUILTINS: [(&[u8], &str); 21] = [
+static BUILTINS: [(&[u8], &str); 21] = [
     (b"_Z1fv", "f()"),
     (b"_Z1fw", "f(wchar_t)"),
     (b"_Z1fb", "f(bool)"),
@@ -29,7 +32,7 @@ const BUILTINS: [(&[u8], &str); 21] = [
 ];
 
 /// Names of all kinds.
-const TEXTS: [(&[u8], &str); 55] = [
+static TEXTS: [(&[u8], &str); 55] = [
     (b"_ZN5space3fooEibc", "space::foo(int, bool, char)"),
     (b"_ZN5space3fooEii", "space::foo(int, int)"),
     (
@@ -111,7 +114,7 @@ const TEXTS: [(&[u8], &str); 55] = [
 ];
 
 /// Two names, of which one refers to a component that the other spells out again.
-const SHARED: [(&[u8], &[u8]); 2] = [(b"_Z1fP1aS0_", b"_Z1fP1aP1a"), (b"_Z1fP1aS_", b"_Z1fP1a1a")];
+static SHARED: [(&[u8], &[u8]); 2] = [(b"_Z1fP1aS0_", b"_Z1fP1aP1a"), (b"_Z1fP1aS_", b"_Z1fP1a1a")];
 
 /// What a name becomes under the default options.
 pub(crate) fn demangled(alloc: Global, name: &[u8]) -> Result<String, SymbolFault> {
@@ -119,23 +122,27 @@ pub(crate) fn demangled(alloc: Global, name: &[u8]) -> Result<String, SymbolFaul
     demangle_symbol(alloc, name, &parse, &DemangleOptions::default())
 }
 
+/// Ends the test where an answer is other than the text or the fault that is wanted.
+pub(crate) fn becomes<C: Debug + Drop>(
+    rt: &impl Abort,
+    case: C,
+    answer: Result<String, SymbolFault>,
+    wanted: Result<&str, SymbolFault>,
+) {
+    let found = answer
+        .as_ref()
+        .map(|text| text.as_str())
+        .map_err(|fault| *fault);
+    same(rt, case, found, wanted);
+}
+
 #[test]
 fn names_have_their_texts(rt: HostRuntime) {
-    for (name, text) in BUILTINS {
-        let answer = demangled(rt.alloc(), name);
-        assert_eq!(rt;
-            answer.as_ref().map(|text| text.as_str()),
-            Ok(text),
-            "at {name:?}"
-        );
+    for (name, text) in &BUILTINS {
+        becomes(&rt, *name, demangled(rt.alloc(), *name), Ok(*text));
     }
-    for (name, text) in TEXTS {
-        let answer = demangled(rt.alloc(), name);
-        assert_eq!(rt;
-            answer.as_ref().map(|text| text.as_str()),
-            Ok(text),
-            "at {name:?}"
-        );
+    for (name, text) in &TEXTS {
+        becomes(&rt, *name, demangled(rt.alloc(), *name), Ok(*text));
     }
 }
 
@@ -157,22 +164,18 @@ fn options_leave_out_what_they_say(rt: HostRuntime) {
         (b"_Z1fv.clone.0".as_slice(), print.no_params(), "f"),
     ] {
         let answer = demangle_symbol(rt.alloc(), name, &ParseOptions::default(), &options);
-        assert_eq!(rt;
-            answer.as_ref().map(|text| text.as_str()),
-            Ok(text),
-            "at {name:?}"
-        );
+        becomes(&rt, name, answer, Ok(text));
     }
 }
 
 #[test]
 fn sharing_is_invisible(rt: HostRuntime) {
-    for (shared, spelt) in SHARED {
+    for (shared, spelt) in &SHARED {
         for limit in 1..21 {
             let print = DemangleOptions::new().recursion_limit(limit);
-            let one = demangle_symbol(rt.alloc(), shared, &ParseOptions::default(), &print);
-            let other = demangle_symbol(rt.alloc(), spelt, &ParseOptions::default(), &print);
-            assert_eq!(rt; one, other, "at {shared:?} with {limit}");
+            let one = demangle_symbol(rt.alloc(), *shared, &ParseOptions::default(), &print);
+            let other = demangle_symbol(rt.alloc(), *spelt, &ParseOptions::default(), &print);
+            same(&rt, (*shared, limit), one, other);
         }
     }
 }
