@@ -1,5 +1,6 @@
 //! Runs over ends that move few bytes or fail, long lines, and inputs beyond the limit.
 
+use crate::checks::{holds, same};
 use crate::runs::run_over;
 use cppfilt_run::FilterOptions;
 use cppfilt_run::ends::{Sink, Source};
@@ -27,9 +28,9 @@ fn read_with_fault(
     let mut errors = VecSink::new(rt.alloc());
     let words = Vec::new(rt.alloc());
     let answer = run(rt.alloc(), words, &mut source, &mut written, &mut errors);
-    assert_eq!(rt; answer, status, "at {fail_at}");
-    assert_eq!(rt; written.bytes(), output, "at {fail_at}");
-    assert_eq!(rt; errors.bytes(), answer.message(), "at {fail_at}");
+    same(rt, fail_at, answer, status);
+    same(rt, fail_at, written.bytes(), output);
+    same(rt, fail_at, errors.bytes(), answer.message());
     Ok(())
 }
 
@@ -68,30 +69,33 @@ fn a_failed_write_leaves_a_front(rt: HostRuntime) -> Result<(), Fail> {
         } else {
             Status::Done
         };
-        assert_eq!(rt; answer, status, "at {call}");
-        assert_eq!(rt; output.bytes(), &due[..call.min(due.len())], "at {call}");
-        assert_eq!(rt; errors.bytes(), answer.message(), "at {call}");
+        same(&rt, call, answer, status);
+        same(&rt, call, output.bytes(), &due[..call.min(due.len())]);
+        same(&rt, call, errors.bytes(), answer.message());
     }
     Ok(())
 }
 
+/// Words, and the status of a run whose first read and first message fail.
+static STATUSES: [(&str, Status); 3] = [
+    ("--bogus", Status::Usage),
+    ("--types", Status::ReadFault),
+    ("--help", Status::Help),
+];
+
 #[test]
 fn a_failed_message_changes_no_status(rt: HostRuntime) -> Result<(), Fail> {
-    for (word, status) in [
-        ("--bogus", Status::Usage),
-        ("--types", Status::ReadFault),
-        ("--help", Status::Help),
-    ] {
+    for (word, status) in &STATUSES {
         let mut words = Vec::new(rt.alloc());
-        words.push(String::from_str(rt.alloc(), word)?)?;
+        words.push(String::from_str(rt.alloc(), *word)?)?;
         let first_read = Vec::from_slice(rt.alloc(), [0u64].as_slice())?;
         let first_write = Vec::from_slice(rt.alloc(), [0u64].as_slice())?;
         let mut source = FaultySource::new(Vec::new(rt.alloc()), 1, first_read);
         let mut output = VecSink::new(rt.alloc());
         let mut errors = FaultySink::new(rt.alloc(), 1, first_write);
         let answer = run(rt.alloc(), words, &mut source, &mut output, &mut errors);
-        assert_eq!(rt; answer, status, "at {word}");
-        assert_eq!(rt; errors.bytes(), b"".as_slice(), "at {word}");
+        same(&rt, *word, answer, *status);
+        same(&rt, *word, errors.bytes(), b"".as_slice());
     }
     Ok(())
 }
@@ -105,50 +109,64 @@ fn long_name(alloc: Global, letters: usize) -> Result<Vec<u8>, Fail> {
     Ok(name)
 }
 
+/// A line of such a name.
+fn long_line(alloc: Global, letters: usize, ending: &[u8]) -> Result<Vec<u8>, Fail> {
+    let mut line = long_name(alloc, letters)?;
+    line.extend_from_slice(ending)?;
+    Ok(line)
+}
+
+/// The line that it becomes where it isn't too long.
+fn long_text(alloc: Global, letters: usize, ending: &[u8]) -> Result<Vec<u8>, Fail> {
+    let mut line = Vec::from_elem(alloc, b'a', letters)?;
+    line.extend_from_slice(b"(int)")?;
+    line.extend_from_slice(ending)?;
+    Ok(line)
+}
+
+/// How many letters a name has, what ends its line, and whether it is taken for a name.
+static LONG_LINES: [(usize, &[u8], bool); 3] = [
+    (1_048_566, b"\r\n", true),
+    (1_048_566, b"\r\r\n", false),
+    (1_048_567, b"", false),
+];
+
 #[test]
 fn long_lines_stay(rt: HostRuntime) -> Result<(), Fail> {
-    let cases: [(usize, &[u8], bool); 3] = [
-        (1_048_566, b"\r\n", true),
-        (1_048_566, b"\r\r\n", false),
-        (1_048_567, b"", false),
-    ];
-    for (letters, ending, asked) in cases {
-        let mut input = long_name(rt.alloc(), letters)?;
-        input.extend_from_slice(ending)?;
-        let mut output = Vec::new(rt.alloc());
-        if asked {
-            output.extend_from_slice(Vec::from_elem(rt.alloc(), b'a', letters)?.as_slice())?;
-            output.extend_from_slice(b"(int)")?;
-            output.extend_from_slice(ending)?;
-        } else {
-            output.extend_from_slice(input.as_slice())?;
-        }
+    for (letters, ending, is_name) in &LONG_LINES {
+        let input = long_line(rt.alloc(), *letters, *ending)?;
         let ran = run_over(rt.alloc(), "-w", input.as_slice())?;
-        assert_eq!(rt; ran.status, Status::Done);
-        assert!(rt;
-            ran.output.bytes() == output.as_slice(),
-            "{letters} letters"
-        );
+        same(&rt, *letters, ran.status, Status::Done);
+        let text = long_text(rt.alloc(), *letters, *ending)?;
+        let output = ran.output.bytes();
+        let is_right = if *is_name {
+            output == text.as_slice()
+        } else {
+            output == input.as_slice()
+        };
+        holds(&rt, *letters, is_right);
     }
     Ok(())
 }
 
+/// Limits, the status of a run over six bytes, and what is written.
+static LIMITS: [(u64, Status, &[u8]); 5] = [
+    (4, Status::InputTooLong, b"a\nb\n"),
+    (5, Status::InputTooLong, b"a\nb\n"),
+    (6, Status::Done, b"a\nb\nc\n"),
+    (7, Status::Done, b"a\nb\nc\n"),
+    (0, Status::InputTooLong, b""),
+];
+
 #[test]
 fn an_input_beyond_the_limit_is_too_long(rt: HostRuntime) -> Result<(), Fail> {
-    let cases: [(u64, Status, &[u8]); 5] = [
-        (4, Status::InputTooLong, b"a\nb\n"),
-        (5, Status::InputTooLong, b"a\nb\n"),
-        (6, Status::Done, b"a\nb\nc\n"),
-        (7, Status::Done, b"a\nb\nc\n"),
-        (0, Status::InputTooLong, b""),
-    ];
     let options = FilterOptions::default();
-    for (limit, status, written) in cases {
+    for (limit, status, written) in &LIMITS {
         let mut source = VecSource::new(Vec::from_slice(rt.alloc(), b"a\nb\nc\n")?);
         let mut output = VecSink::new(rt.alloc());
-        let answer = filter_lines(rt.alloc(), &options, limit, &mut source, &mut output);
-        assert_eq!(rt; answer, status, "at {limit}");
-        assert_eq!(rt; output.bytes(), written, "at {limit}");
+        let answer = filter_lines(rt.alloc(), &options, *limit, &mut source, &mut output);
+        same(&rt, *limit, answer, *status);
+        same(&rt, *limit, output.bytes(), *written);
     }
     Ok(())
 }

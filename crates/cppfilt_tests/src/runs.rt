@@ -1,5 +1,6 @@
 //! Runs of the program from end to end: lines, names, samples, help, wrong words.
 
+use crate::checks::{holds, same};
 use crate::words::{HELP, MISTAKES, RUNS};
 use cppfilt_run::ends::Source;
 use cppfilt_run::memory::{VecSink, VecSource};
@@ -53,66 +54,66 @@ pub(crate) fn run_over(alloc: Global, words: &str, input: &[u8]) -> Result<Ran, 
 
 #[test]
 fn words_are_obeyed(rt: HostRuntime) -> Result<(), Fail> {
-    for (words, input, output) in RUNS {
-        let ran = run_over(rt.alloc(), words, input)?;
-        assert_eq!(rt; ran.status, Status::Done, "at {words} {input:?}");
-        assert_eq!(rt; ran.output.bytes(), output, "at {words} {input:?}");
-        assert_eq!(rt; ran.errors.bytes(), b"".as_slice(), "at {words} {input:?}");
+    for (words, input, output) in &RUNS {
+        let case = (*words, *input);
+        let ran = run_over(rt.alloc(), *words, *input)?;
+        same(&rt, case, ran.status, Status::Done);
+        same(&rt, case, ran.output.bytes(), *output);
+        same(&rt, case, ran.errors.bytes(), b"".as_slice());
     }
     Ok(())
 }
 
 #[test]
 fn wrong_words_are_refused(rt: HostRuntime) -> Result<(), Fail> {
-    for (words, told) in MISTAKES {
-        let ran = run_over(rt.alloc(), words, b"_Z1fv\n")?;
-        assert_eq!(rt; ran.status, Status::Usage, "at {words}");
-        assert_eq!(rt; ran.output.bytes(), b"".as_slice(), "at {words}");
-        assert!(rt;
-            ran.errors.bytes().starts_with(told.as_bytes()),
-            "at {words}"
-        );
-        assert!(rt;
-            ran.errors
-                .bytes()
-                .ends_with(b"\n\nFor more information, try '--help'.\n"),
-            "at {words}"
-        );
-        assert_eq!(rt; ran.left.as_slice(), b"_Z1fv\n".as_slice(), "at {words}");
+    let last = b"\n\nFor more information, try '--help'.\n";
+    for (words, told) in &MISTAKES {
+        let ran = run_over(rt.alloc(), *words, b"_Z1fv\n")?;
+        same(&rt, *words, ran.status, Status::Usage);
+        same(&rt, *words, ran.output.bytes(), b"".as_slice());
+        let errors = ran.errors.bytes();
+        holds(&rt, *words, errors.starts_with(told.as_bytes()));
+        holds(&rt, *words, errors.ends_with(last));
+        same(&rt, *words, ran.left.as_slice(), b"_Z1fv\n".as_slice());
     }
     Ok(())
 }
+
+/// Words that ask for help.
+static QUESTIONS: [&str; 4] = [
+    "--help",
+    "-h",
+    "-p foo -h",
+    "--parse-limit 0 --help --bogus",
+];
 
 #[test]
 fn help_is_given(rt: HostRuntime) -> Result<(), Fail> {
-    for words in [
-        "--help",
-        "-h",
-        "-p foo -h",
-        "--parse-limit 0 --help --bogus",
-    ] {
-        let ran = run_over(rt.alloc(), words, b"_Z1fv\n")?;
-        assert_eq!(rt; ran.status, Status::Help, "at {words}");
-        assert_eq!(rt; ran.output.bytes(), HELP.as_bytes(), "at {words}");
-        assert_eq!(rt; ran.errors.bytes(), b"".as_slice(), "at {words}");
-        assert_eq!(rt; ran.left.as_slice(), b"_Z1fv\n".as_slice(), "at {words}");
+    for words in &QUESTIONS {
+        let ran = run_over(rt.alloc(), *words, b"_Z1fv\n")?;
+        same(&rt, *words, ran.status, Status::Help);
+        same(&rt, *words, ran.output.bytes(), HELP.as_bytes());
+        same(&rt, *words, ran.errors.bytes(), b"".as_slice());
+        same(&rt, *words, ran.left.as_slice(), b"_Z1fv\n".as_slice());
     }
     Ok(())
 }
 
+/// Each status, its code and its message.
+static STATUSES: [(Status, u8, &[u8]); 7] = [
+    (Status::Done, 0, b""),
+    (Status::Help, 0, b""),
+    (Status::Usage, 2, b""),
+    (Status::ReadFault, 3, b"cppfilt: read fault\n"),
+    (Status::WriteFault, 4, b"cppfilt: write fault\n"),
+    (Status::InputTooLong, 5, b"cppfilt: input too long\n"),
+    (Status::OutOfMemory, 6, b"cppfilt: out of memory\n"),
+];
+
 #[test]
 fn statuses_have_their_codes(rt: HostRuntime) {
-    let statuses: [(Status, u8, &[u8]); 7] = [
-        (Status::Done, 0, b""),
-        (Status::Help, 0, b""),
-        (Status::Usage, 2, b""),
-        (Status::ReadFault, 3, b"cppfilt: read fault\n"),
-        (Status::WriteFault, 4, b"cppfilt: write fault\n"),
-        (Status::InputTooLong, 5, b"cppfilt: input too long\n"),
-        (Status::OutOfMemory, 6, b"cppfilt: out of memory\n"),
-    ];
-    for (status, code, message) in statuses {
-        assert_eq!(rt; status.code(), code);
-        assert_eq!(rt; status.message(), message);
+    for (status, code, message) in &STATUSES {
+        same(&rt, *status, status.code(), *code);
+        same(&rt, *status, status.message(), *message);
     }
 }

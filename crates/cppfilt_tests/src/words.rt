@@ -1,7 +1,7 @@
 //! Words of the command line, inputs, and what is written for them.
 
 /// Words, separated by blanks, an input, and what is written for them.
-pub(crate) const RUNS: [(&str, &[u8], &[u8]); 58] = [
+pub(crate) static RUNS: [(&str, &[u8], &[u8]); 58] = [
     ("", b"foo\n_Z1fv\r\n_Z", b"foo\nf()\r\n_Z"),
     (
         "--why",
@@ -147,7 +147,7 @@ pub(crate) const RUNS: [(&str, &[u8], &[u8]); 58] = [
 ];
 
 /// Words that are wrong, and what is told of them first.
-pub(crate) const MISTAKES: [(&str, &str); 22] = [
+pub(crate) static MISTAKES: [(&str, &str); 22] = [
     ("--bogus", "error: unexpected argument '--bogus' found\n"),
     ("-x", "error: unexpected argument '-x' found\n"),
     (
