@@ -1,5 +1,5 @@
-//! Tests of the program's public calls: runs from end to end whose outputs come from outside, ends that move few bytes or
-//! fail, and inputs beyond the limit.
+//! Tests of the program's public calls: runs from end to end whose outputs come from outside, ends that move few bytes
+//! or fail, and inputs beyond the limit.
 #![tactic(auto)]
 
 #[cfg(test)]
