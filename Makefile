@@ -1,5 +1,5 @@
-# The two commands of the README. From nothing either takes one to three hours, since all is proved; what passed is kept
-# on the machine, and a later run proves only what changed.
+# The two commands of the README. From nothing either takes one to three hours, since all is proved. Some kits keep on
+# the machine what passed, and a later run proves only what changed; others begin anew each time.
 .PHONY: cppfilt test
 
 # The gate, which proves and builds the program, and leaves it here as ./cppfilt.
