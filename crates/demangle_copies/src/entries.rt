@@ -17,11 +17,14 @@ ghost use Rattle.demangle_entries.specs.TreeEntries.{
 };
 
 use crate::try_clone::TryClone;
+use demangle_discard::Discard;
 use demangle_entries::{
     ArrayType, ClassEnumType, Decltype, ExceptionSpec, FunctionType, Prefix, Substitutable,
     TypeNode, UnresolvedType, VectorType,
 };
-use demangle_node_copies::clone_optional_template_args;
+use demangle_node_copies::{
+    clone_boxed_expression, clone_boxed_name, clone_optional_template_args,
+};
 use demangle_text::Result;
 use std::alloc::Global;
 
@@ -30,13 +33,11 @@ impl TryClone for Decltype {
 
     fn try_clone(&self, alloc: Global) -> Result<Decltype> {
         match self {
-            Decltype::IdExpression(expr) => Ok(Decltype::IdExpression(Box::new(
-                alloc,
-                expr.try_clone(alloc)?,
+            Decltype::IdExpression(expr) => Ok(Decltype::IdExpression(clone_boxed_expression(
+                alloc, expr,
             )?)),
-            Decltype::Expression(expr) => Ok(Decltype::Expression(Box::new(
-                alloc,
-                expr.try_clone(alloc)?,
+            Decltype::Expression(expr) => Ok(Decltype::Expression(clone_boxed_expression(
+                alloc, expr,
             )?)),
         }
     }
@@ -66,7 +67,7 @@ impl TryClone for ArrayType {
                 *length, *element,
             )),
             ArrayType::DimensionExpression(length, element) => Ok(ArrayType::DimensionExpression(
-                Box::new(alloc, length.try_clone(alloc)?)?,
+                clone_boxed_expression(alloc, length)?,
                 *element,
             )),
             ArrayType::NoDimension(element) => Ok(ArrayType::NoDimension(*element)),
@@ -83,7 +84,7 @@ impl TryClone for VectorType {
                 *length, *element,
             )),
             VectorType::DimensionExpression(length, element) => Ok(VectorType::DimensionExpression(
-                Box::new(alloc, length.try_clone(alloc)?)?,
+                clone_boxed_expression(alloc, length)?,
                 *element,
             )),
         }
@@ -95,22 +96,16 @@ impl TryClone for ClassEnumType {
 
     fn try_clone(&self, alloc: Global) -> Result<ClassEnumType> {
         match self {
-            ClassEnumType::Named(name) => Ok(ClassEnumType::Named(Box::new(
-                alloc,
-                name.try_clone(alloc)?,
-            )?)),
-            ClassEnumType::ElaboratedStruct(name) => Ok(ClassEnumType::ElaboratedStruct(Box::new(
-                alloc,
-                name.try_clone(alloc)?,
-            )?)),
-            ClassEnumType::ElaboratedUnion(name) => Ok(ClassEnumType::ElaboratedUnion(Box::new(
-                alloc,
-                name.try_clone(alloc)?,
-            )?)),
-            ClassEnumType::ElaboratedEnum(name) => Ok(ClassEnumType::ElaboratedEnum(Box::new(
-                alloc,
-                name.try_clone(alloc)?,
-            )?)),
+            ClassEnumType::Named(name) => Ok(ClassEnumType::Named(clone_boxed_name(alloc, name)?)),
+            ClassEnumType::ElaboratedStruct(name) => Ok(ClassEnumType::ElaboratedStruct(
+                clone_boxed_name(alloc, name)?,
+            )),
+            ClassEnumType::ElaboratedUnion(name) => Ok(ClassEnumType::ElaboratedUnion(
+                clone_boxed_name(alloc, name)?,
+            )),
+            ClassEnumType::ElaboratedEnum(name) => Ok(ClassEnumType::ElaboratedEnum(
+                clone_boxed_name(alloc, name)?,
+            )),
         }
     }
 }
@@ -121,9 +116,8 @@ impl TryClone for ExceptionSpec {
     fn try_clone(&self, alloc: Global) -> Result<ExceptionSpec> {
         match self {
             ExceptionSpec::NoExcept => Ok(ExceptionSpec::NoExcept),
-            ExceptionSpec::Computed(condition) => Ok(ExceptionSpec::Computed(Box::new(
-                alloc,
-                condition.try_clone(alloc)?,
+            ExceptionSpec::Computed(condition) => Ok(ExceptionSpec::Computed(clone_boxed_expression(
+                alloc, condition,
             )?)),
         }
     }
@@ -145,7 +139,13 @@ impl TryClone for FunctionType {
 
     fn try_clone(&self, alloc: Global) -> Result<FunctionType> {
         let exception_spec = clone_optional_spec(alloc, &self.exception_spec)?;
-        let bare = self.bare.try_clone(alloc)?;
+        let bare = match self.bare.try_clone(alloc) {
+            Ok(bare) => bare,
+            Err(error) => {
+                exception_spec.discard();
+                return Err(error);
+            }
+        };
         Ok(FunctionType {
             cv_qualifiers: self.cv_qualifiers,
             exception_spec,
@@ -224,9 +224,8 @@ impl TryClone for Substitutable {
                 unresolved.try_clone(alloc)?,
             )),
             Substitutable::Prefix(prefix) => Ok(Substitutable::Prefix(prefix.try_clone(alloc)?)),
-            Substitutable::Expression(width) => Ok(Substitutable::Expression(Box::new(
-                alloc,
-                width.try_clone(alloc)?,
+            Substitutable::Expression(width) => Ok(Substitutable::Expression(clone_boxed_expression(
+                alloc, width,
             )?)),
         }
     }

@@ -1,12 +1,13 @@
-//! What a reader drops. Each node type that it drops stands here by name, so that its drop is proved in this crate,
-//! and not again in every crate whose functions drop one, as the bound `Drop` would ask for. A node is dropped by a
-//! call: at the end of a function its drop would be written out, with all variants of the nodes inside it.
+//! What a reader or a copy drops. Each node type that they drop stands here by name, so that its drop is proved in this
+//! crate, and not again in every crate whose functions drop one, as the bound `Drop` would ask for. A node is dropped
+//! by a call: at the end of a function its drop would be written out, with all variants of the nodes inside it.
 #![tactic(auto)]
 
 use demangle_entries::{
-    AbiTags, BareFunctionType, CloneSuffix, ClosureTypeName, Encoding, ExceptionSpec, Expression,
-    LambdaSig, MangledName, Name, ResourceName, SpecialName, Substitutable, TemplateArg,
-    TemplateArgs, TypeHandle, UnqualifiedName, UnresolvedQualifierLevel,
+    AbiTags, BareFunctionType, BaseUnresolvedName, CloneSuffix, ClosureTypeName, Encoding,
+    ExceptionSpec, Expression, Initializer, LambdaSig, MangledName, MemberName, Name, ResourceName,
+    SpecialName, Substitutable, TemplateArg, TemplateArgs, TypeHandle, UnqualifiedName,
+    UnresolvedQualifierLevel,
 };
 
 /// What was read or copied before a later part failed, or only to learn how long it is.
@@ -64,6 +65,12 @@ impl Discard for BareFunctionType {
     }
 }
 
+impl Discard for BaseUnresolvedName {
+    fn discard(self) {
+        drop(self);
+    }
+}
+
 impl Discard for CloneSuffix {
     fn discard(self) {
         drop(self);
@@ -94,6 +101,12 @@ impl Discard for Expression {
     }
 }
 
+impl Discard for Initializer {
+    fn discard(self) {
+        drop(self);
+    }
+}
+
 impl Discard for LambdaSig {
     fn discard(self) {
         drop(self);
@@ -101,6 +114,12 @@ impl Discard for LambdaSig {
 }
 
 impl Discard for MangledName {
+    fn discard(self) {
+        drop(self);
+    }
+}
+
+impl Discard for MemberName {
     fn discard(self) {
         drop(self);
     }

@@ -1,6 +1,6 @@
 //! The recursion behind the copies of `nodes`: a copy has the same tag and the same parts.
 
-ghost use Rattle.std.specs.Prelude.{◌≡◌, IfOk, Ok};
+ghost use Rattle.std.specs.Prelude.{◌≡◌, [], ◌∷◌, ◌++◌, IfOk, Ok};
 ghost use Rattle.demangle_core.specs.Core.{trees};
 ghost use Rattle.demangle_leaf_nodes.specs.TreeLeaves.{parts_of_option, tag_of_option};
 ghost use Rattle.demangle_nodes.specs.TreeNodes.{
@@ -42,6 +42,7 @@ ghost use Rattle.demangle_nodes.specs.TreeNodes.{
   tree_of_template_args,
 };
 
+use demangle_discard::Discard;
 use demangle_leaf_nodes::clone_suffixes;
 use demangle_nodes::{
     BaseUnresolvedName, DestructorName, Encoding, ExprPrimary, Expression, FoldExpr,
@@ -173,7 +174,7 @@ pub fn clone_template_arg(alloc: Global, node: &TemplateArg) -> Result<TemplateA
 pub fn clone_member_name(alloc: Global, node: &MemberName) -> Result<MemberName, AllocError>
     ensures same_parts { IfOk result (λ r. parts_of_member_name r ≡ parts_of_member_name node.now) }
 {
-    Ok(MemberName(boxed(alloc, clone_name(alloc, &node.0))?))
+    Ok(MemberName(clone_boxed_name(alloc, &node.0)?))
 }
 
 /// A copy with the same tree, `place` included. Want of memory is its only refusal.
@@ -321,7 +322,7 @@ pub fn clone_local_name(alloc: Global, node: &LocalName) -> Result<LocalName, Al
         LocalName::Default(encoding, number, name) => {
             let (encoding, name) = both(
                 clone_boxed_encoding(alloc, encoding),
-                boxed(alloc, clone_name(alloc, name)),
+                clone_boxed_name(alloc, name),
             )?;
             Ok(LocalName::Default(encoding, *number, name))
         }
@@ -593,12 +594,25 @@ pub fn clone_expression(alloc: Global, node: &Expression) -> Result<Expression, 
     }
 }
 
+/// A copy with the same tree, `place` included, in a box. Want of memory is its only refusal.
 #[cycle(clone)]
-fn clone_boxed_expression(alloc: Global, node: &Expression) -> Result<Box<Expression>, AllocError>
+pub fn clone_boxed_expression(
+    alloc: Global,
+    node: &Expression,
+) -> Result<Box<Expression>, AllocError>
     ensures same_tag { IfOk result (λ r. tag_of_expression r.value ≡ tag_of_expression node.now) }
     ensures same_parts { IfOk result (λ r. parts_of_expression r.value ≡ parts_of_expression node.now) }
 {
     boxed(alloc, clone_expression(alloc, node))
+}
+
+/// A copy with the same tree, `place` included, in a box. Want of memory is its only refusal.
+#[cycle(clone)]
+pub fn clone_boxed_name(alloc: Global, node: &Name) -> Result<Box<Name>, AllocError>
+    ensures same_tag { IfOk result (λ r. tag_of_name r.value ≡ tag_of_name node.now) }
+    ensures same_parts { IfOk result (λ r. parts_of_name r.value ≡ parts_of_name node.now) }
+{
+    boxed(alloc, clone_name(alloc, node))
 }
 
 #[cycle(clone)]
@@ -619,7 +633,8 @@ fn clone_template_arg_list(
 {
     let mut copy = Vec::with_capacity(alloc, items.len())?;
     for item in items {
-        copy.push(clone_template_arg(alloc, item)?)?;
+        let (list, next) = kept(copy, clone_template_arg(alloc, item))?;
+        copy = grown(list, next)?;
     }
     Ok(copy)
 }
@@ -631,7 +646,8 @@ fn clone_expression_list(alloc: Global, items: &[Expression]) -> Result<Vec<Expr
 {
     let mut copy = Vec::with_capacity(alloc, items.len())?;
     for item in items {
-        copy.push(clone_expression(alloc, item)?)?;
+        let (list, next) = kept(copy, clone_expression(alloc, item))?;
+        copy = grown(list, next)?;
     }
     Ok(copy)
 }
@@ -646,7 +662,8 @@ fn clone_level_list(
 {
     let mut copy = Vec::with_capacity(alloc, items.len())?;
     for item in items {
-        copy.push(clone_unresolved_qualifier_level(alloc, item)?)?;
+        let (list, next) = kept(copy, clone_unresolved_qualifier_level(alloc, item))?;
+        copy = grown(list, next)?;
     }
     Ok(copy)
 }
@@ -692,30 +709,71 @@ fn clone_optional_name(
 {
     match node {
         None => Ok(None),
-        Some(inner) => Ok(Some(boxed(alloc, clone_name(alloc, inner))?)),
+        Some(inner) => Ok(Some(clone_boxed_name(alloc, inner)?)),
     }
 }
 
-// What is dropped where memory is wanting is dropped here, so that in the cycle only the copies of lists have a copy
-// half made to drop.
-fn boxed<A: Drop>(alloc: Global, value: Result<A, AllocError>) -> Result<Box<A>, AllocError>
+// What is let go for want of memory is let go below, by name: so no drop of a node is proved in this crate.
+
+// What was copied, in a box.
+fn boxed<A: Discard>(alloc: Global, value: Result<A, AllocError>) -> Result<Box<A>, AllocError>
     ensures inside { IfOk result (λ r. value ≡ Ok r.value) }
 {
-    let value = value?;
-    Ok(Box::new(alloc, value)?)
+    match Box::new(alloc, value?) {
+        Ok(value) => Ok(value),
+        Err(refused) => {
+            refused.value.discard();
+            Err(AllocError)
+        }
+    }
 }
 
-fn both<A: Drop, B: Drop>(
+// What is held beside the next copy.
+fn kept<A: Discard, B>(held: A, copy: Result<B, AllocError>) -> Result<(A, B), AllocError>
+    ensures first { IfOk result (λ r. r.0 ≡ held) }
+    ensures second { IfOk result (λ r. copy ≡ Ok r.1) }
+{
+    match copy {
+        Ok(copy) => Ok((held, copy)),
+        Err(error) => {
+            held.discard();
+            Err(error)
+        }
+    }
+}
+
+// The list with the next copy at its end.
+fn grown<A: Discard>(list: Vec<A>, copy: A) -> Result<Vec<A>, AllocError>
+    ensures { IfOk result (λ r. r.items ≡ list.items ++ copy ∷ []) }
+{
+    let mut list = list;
+    match list.push(copy) {
+        Ok(()) => Ok(list),
+        Err(refused) => {
+            refused.value.discard();
+            list.discard();
+            Err(AllocError)
+        }
+    }
+}
+
+fn both<A: Discard, B: Discard>(
     one: Result<A, AllocError>,
     other: Result<B, AllocError>,
 ) -> Result<(A, B), AllocError>
     ensures first { IfOk result (λ r. one ≡ Ok r.0) }
     ensures second { IfOk result (λ r. other ≡ Ok r.1) }
 {
-    Ok((one?, other?))
+    match one {
+        Ok(one) => kept(one, other),
+        Err(error) => {
+            other.ok().discard();
+            Err(error)
+        }
+    }
 }
 
-fn all_three<A: Drop>(
+fn all_three<A: Discard>(
     one: Result<A, AllocError>,
     other: Result<A, AllocError>,
     last: Result<A, AllocError>,
@@ -724,7 +782,8 @@ fn all_three<A: Drop>(
     ensures second { IfOk result (λ r. other ≡ Ok r.1) }
     ensures third { IfOk result (λ r. last ≡ Ok r.2) }
 {
-    Ok((one?, other?, last?))
+    let (one, (other, last)) = both(one, both(other, last))?;
+    Ok((one, other, last))
 }
 
 // A copy of a node below these, whose only error is want of memory.
