@@ -12,10 +12,9 @@ ghost use Rattle.demangle_scope.specs.ItemTree.{item_tree};
 ghost use Rattle.demangle_scope.specs.ScopeOf.{scope_of};
 ghost use Rattle.demangle_print_below.specs.PageOf.{page};
 
+use demangle_entries::{Encoding, Expression, MangledName, Name, Substitutable, TemplateArg};
 use demangle_scope::{ArgScopeStack, DemangleContext, DemangleWrite, InnerItem};
-use demangle_tree::{
-    Encoding, Expression, MangledName, Name, Substitutable, SubstitutionTable, TemplateArg,
-};
+use demangle_table::SubstitutionTable;
 
 /// The lines through which all recursion goes, at a place: of six types of nodes, which cut every cycle of types, and
 /// of what of an item stands behind. All that a line calls besides is called by name.

@@ -7,8 +7,8 @@ ghost use Rattle.demangle_scope.specs.ScopeOf.{scope_of};
 ghost use Rattle.demangle_print_below.specs.PageOf.{page};
 
 use crate::below::Below;
+use demangle_entries::NonSubstitution;
 use demangle_scope::{ArgScopeStack, DemangleContext, DemangleWrite};
-use demangle_tree::NonSubstitution;
 
 /// The component of this number in the list of substitutions; nothing where there is none.
 pub fn back_reference<'subs, W: DemangleWrite, B: Below<'subs, W>>(

@@ -7,7 +7,7 @@ ghost use Rattle.demangle_print_below.specs.PageOf.{page};
 ghost use Rattle.demangle_print_below.specs.PlaceOf.{place_in, place_of};
 
 use demangle_scope::{DemangleContext, DemangleWrite, PrintFault};
-use demangle_tree::SubstitutionTable;
+use demangle_table::SubstitutionTable;
 
 /// The table and the input of the tree that is printed, the level, and the deepest level, all by value: a line enters a
 /// level, and none gives one back.

@@ -9,8 +9,8 @@ ghost use Rattle.demangle_print_below.specs.PageOf.{page};
 ghost use Rattle.demangle_print_below.specs.References.{is_lvalue_item, is_lvalue_node, is_rvalue_item};
 ghost use Rattle.demangle_print_below.specs.References.{is_rvalue_node, is_rvalue_top};
 
+use demangle_entries::TypeNode;
 use demangle_scope::{DemangleContext, DemangleWrite, InnerItem};
-use demangle_tree::TypeNode;
 
 fn is_rvalue_node(node: &TypeNode) -> bool
     ensures { result ≡ is_rvalue_node node.now }

@@ -7,10 +7,11 @@ ghost use Rattle.demangle_scope.specs.ItemTree.{item_tree, type_in};
 ghost use Rattle.demangle_table.specs.TableOf.{table_of};
 
 use demangle_context::{InnerNode, RefersTo};
-use demangle_tree::{
+use demangle_entries::{
     ArrayType, BareFunctionType, CvQualifiers, Encoding, FunctionType, PointerToMemberType,
-    SubstitutionTable, TypeNode, VectorType,
+    TypeNode, VectorType,
 };
+use demangle_table::SubstitutionTable;
 
 /// A node of which a part stands behind what is printed next, as the parameters of a function behind its name, or the
 /// `*` of a pointer behind the type that it points to. Contracts see it as the node's tree. The original's trait object

@@ -11,10 +11,10 @@ ghost use Rattle.demangle_scope.specs.ScopeOf.{answered, argument_list, leaf_of,
 ghost use Rattle.demangle_scope.specs.ScopeOf.{member_tree, scope_of, top_of, unmarked};
 ghost use Rattle.demangle_scope.specs.OneEntry.{Decides, PassesOn};
 
-use demangle_text::{Error, Result};
-use demangle_tree::{
+use demangle_entries::{
     ClosureTypeName, LeafName, SourceName, TemplateArg, TemplateArgs, UnnamedTypeName,
 };
+use demangle_text::{Error, Result};
 use demangle_vocab::WellKnownComponent;
 use std::fmt;
 use std::fmt::Write;
