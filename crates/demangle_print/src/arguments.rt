@@ -5,11 +5,10 @@ ghost use Rattle.demangle_leaf_nodes.specs.TreeLeaves.{tree_of_template_template
 ghost use Rattle.demangle_leaf_nodes.specs.TreeLeaves.{tree_of_template_template_param_handle};
 ghost use Rattle.demangle_nodes.specs.TreeNodes.{tree_of_template_arg, tree_of_template_args};
 
-use crate::components::template_template_param;
 use crate::demangle::Demangle;
 use crate::printer::begin;
 use demangle_print_below::Below;
-use demangle_print_expressions::function_param;
+use demangle_print_expressions::{function_param, template_template_param};
 use demangle_print_parts::{template_args, template_param, template_template_param_handle};
 use demangle_scope::{ArgScopeStack, DemangleContext, DemangleError, DemangleWrite};
 use demangle_tree::{

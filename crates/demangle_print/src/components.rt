@@ -1,8 +1,6 @@
 //! What components of the table hold.
 
-ghost use Rattle.demangle_leaf_nodes.specs.TreeLeaves.{tree_of_template_template_param};
-ghost use Rattle.demangle_entries.specs.TreeEntries.{tree_of_unresolved_type};
-ghost use Rattle.demangle_meets.specs.Meets.{Line, Prints};
+ghost use Rattle.demangle_meets.specs.Meets.{Line};
 ghost use Rattle.demangle_scope.specs.ScopeOf.{scope_of};
 ghost use Rattle.demangle_print.specs.Held.{held_in};
 ghost use Rattle.demangle_print_below.specs.PageOf.{page};
@@ -14,7 +12,7 @@ use demangle_print_expressions::{
 use demangle_print_names::{prefix_steps, unscoped_template_name_steps};
 use demangle_print_types::type_node_steps;
 use demangle_scope::{ArgScopeStack, DemangleContext, DemangleWrite};
-use demangle_tree::{Substitutable, TemplateTemplateParam, UnresolvedType};
+use demangle_tree::Substitutable;
 
 /// What a component holds, its level entered.
 pub(crate) fn substitutable_steps<'subs, W: DemangleWrite, B: Below<'subs, W>>(
@@ -39,38 +37,4 @@ pub(crate) fn substitutable_steps<'subs, W: DemangleWrite, B: Below<'subs, W>>(
         Substitutable::Prefix(prefix) => prefix_steps(below, prefix, scope, ctx),
         Substitutable::Expression(node) => expression_steps(below, node, scope, ctx),
     }
-}
-
-/// A template template parameter.
-pub(crate) fn template_template_param<'subs, W: DemangleWrite, B: Below<'subs, W>>(
-    below: B,
-    node: &'subs TemplateTemplateParam,
-    scope: Option<ArgScopeStack<'_, 'subs>>,
-    ctx: &mut DemangleContext<'subs, '_, W>,
-)
-    requires { B.can below }
-    ensures { Prints (B.at below) (page W.seen ctx.old) (page W.seen ctx.new)
-        (tree_of_template_template_param node.now) (scope_of scope.entry) }
-{
-    let Some(below) = below.enter(ctx) else {
-        return;
-    };
-    template_template_param_steps(below, node, scope, ctx);
-}
-
-/// The type of an unresolved name.
-pub(crate) fn unresolved_type<'subs, W: DemangleWrite, B: Below<'subs, W>>(
-    below: B,
-    node: &'subs UnresolvedType,
-    scope: Option<ArgScopeStack<'_, 'subs>>,
-    ctx: &mut DemangleContext<'subs, '_, W>,
-)
-    requires { B.can below }
-    ensures { Prints (B.at below) (page W.seen ctx.old) (page W.seen ctx.new) (tree_of_unresolved_type node.now)
-        (scope_of scope.entry) }
-{
-    let Some(below) = below.enter(ctx) else {
-        return;
-    };
-    unresolved_type_steps(below, node, scope, ctx);
 }

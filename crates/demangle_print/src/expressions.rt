@@ -8,13 +8,12 @@ ghost use Rattle.demangle_nodes.specs.TreeNodes.{tree_of_subobject_expr, tree_of
 ghost use Rattle.demangle_nodes.specs.TreeNodes.{tree_of_unresolved_qualifier_level};
 ghost use Rattle.demangle_entries.specs.TreeEntries.{tree_of_unresolved_type};
 
-use crate::components::unresolved_type;
 use crate::demangle::Demangle;
 use crate::printer::begin;
 use demangle_print_below::Below;
 use demangle_print_expressions::{
     base_unresolved_name, destructor_name, expr_primary, fold_expr, initializer, member_name,
-    simple_id, subobject_expr, unresolved_name, unresolved_qualifier_level,
+    simple_id, subobject_expr, unresolved_name, unresolved_qualifier_level, unresolved_type,
 };
 use demangle_print_parts::unresolved_type_handle;
 use demangle_scope::{ArgScopeStack, DemangleContext, DemangleError, DemangleWrite};

@@ -54,6 +54,23 @@ pub fn template_template_param_steps<'subs, W: DemangleWrite, B: Below<'subs, W>
     template_param(below, &node.0, scope, ctx);
 }
 
+/// A template template parameter.
+pub fn template_template_param<'subs, W: DemangleWrite, B: Below<'subs, W>>(
+    below: B,
+    node: &'subs TemplateTemplateParam,
+    scope: Option<ArgScopeStack<'_, 'subs>>,
+    ctx: &mut DemangleContext<'subs, '_, W>,
+)
+    requires { B.can below }
+    ensures { Prints (B.at below) (page W.seen ctx.old) (page W.seen ctx.new)
+        (tree_of_template_template_param node.now) (scope_of scope.entry) }
+{
+    let Some(below) = below.enter(ctx) else {
+        return;
+    };
+    template_template_param_steps(below, node, scope, ctx);
+}
+
 /// Template arguments, with commas between.
 pub(crate) fn template_arg_list<'subs, W: DemangleWrite, B: Below<'subs, W>>(
     below: B,

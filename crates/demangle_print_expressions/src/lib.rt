@@ -13,7 +13,9 @@ mod shapes;
 mod sizes;
 mod unresolved;
 
-pub use arguments::{function_param, template_arg_steps, template_template_param_steps};
+pub use arguments::{
+    function_param, template_arg_steps, template_template_param, template_template_param_steps,
+};
 pub use calls::initializer;
 pub use expression::expression_steps;
 pub use folds::fold_expr;
@@ -21,5 +23,5 @@ pub use literals::expr_primary;
 pub use members::{member_name, subobject_expr};
 pub use unresolved::{
     base_unresolved_name, destructor_name, simple_id, unresolved_name, unresolved_qualifier_level,
-    unresolved_type_steps,
+    unresolved_type, unresolved_type_steps,
 };

@@ -215,3 +215,20 @@ pub fn unresolved_type_steps<'subs, W: DemangleWrite, B: Below<'subs, W>>(
         UnresolvedType::Decltype(node) => decltype(below, node, scope, ctx),
     }
 }
+
+/// The type of an unresolved name.
+pub fn unresolved_type<'subs, W: DemangleWrite, B: Below<'subs, W>>(
+    below: B,
+    node: &'subs UnresolvedType,
+    scope: Option<ArgScopeStack<'_, 'subs>>,
+    ctx: &mut DemangleContext<'subs, '_, W>,
+)
+    requires { B.can below }
+    ensures { Prints (B.at below) (page W.seen ctx.old) (page W.seen ctx.new) (tree_of_unresolved_type node.now)
+        (scope_of scope.entry) }
+{
+    let Some(below) = below.enter(ctx) else {
+        return;
+    };
+    unresolved_type_steps(below, node, scope, ctx);
+}
