@@ -6,8 +6,6 @@ mod number;
 mod options;
 mod refusal;
 mod request;
-#[cfg(test)]
-mod tests;
 mod verdict;
 
 pub use refusal::Refusal;

@@ -7,5 +7,3 @@ pub mod faulty;
 pub mod memory;
 pub mod output;
 pub mod standard;
-#[cfg(test)]
-mod tests;

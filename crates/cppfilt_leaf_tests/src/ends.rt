@@ -1,8 +1,8 @@
 //! The ends over what lies outside of them, and what the faulty ends do call by call.
 
-use crate::ends::{Failed, Sink, Source};
-use crate::faulty::{FaultySink, FaultySource};
-use crate::standard::{StdSink, StdSource};
+use cppfilt_ends::ends::{Failed, Sink, Source};
+use cppfilt_ends::faulty::{FaultySink, FaultySource};
+use cppfilt_ends::standard::{StdSink, StdSource};
 use demangle_context::SinkFault;
 use std::fmt::Debug;
 use std::io::{self, ErrorKind, Read, Write};

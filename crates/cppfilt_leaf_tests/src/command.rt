@@ -1,6 +1,6 @@
-//! What words ask for. Runs over words and bytes stand in cppfilt_run.
+//! What words ask for. Runs over words and bytes stand in cppfilt_tests.
 
-use crate::{Refusal, Task, judge};
+use cppfilt_command::{Refusal, Task, judge};
 use std::alloc::Global;
 use std::test::Fail;
 
