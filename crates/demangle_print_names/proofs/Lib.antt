@@ -5,3 +5,4 @@ pub mod Qualified
 pub mod SourceOr
 pub mod Functions
 pub mod Handles
+pub mod Characters

@@ -1,2 +1,0 @@
-pub mod Itself
-pub mod Characters
