@@ -15,7 +15,8 @@ use std::alloc::Global;
 
 /// Six functions, each of which reads its row with fewer levels left than `most`. A function that is passed by name
 /// holds no data, so this is no larger than `most`. It ties the readers of rows, which are written over any `Below`,
-/// into one recursion.
+/// into one recursion. What it holds is copied with it, so `FnOnce` is enough to call it: there is one way then to call
+/// each function, where `Fn` has three, each of which would be a member of that recursion.
 #[derive(Clone, Copy)]
 pub struct Tied<ReadType, ReadExpression, ReadArgument, ReadName, ReadEncoding, ReadMangledName> {
     /// More levels than any row below has left.
@@ -37,42 +38,42 @@ pub struct Tied<ReadType, ReadExpression, ReadArgument, ReadName, ReadEncoding, 
 impl<ReadType, ReadExpression, ReadArgument, ReadName, ReadEncoding, ReadMangledName> Below
     for Tied<ReadType, ReadExpression, ReadArgument, ReadName, ReadEncoding, ReadMangledName>
 where
-    ReadType: for<'b> Fn(
+    ReadType: for<'b> FnOnce(
         Global,
         Depth,
         &mut SubstitutionTable,
         IndexStr<'b>,
     ) -> Result<(TypeHandle, IndexStr<'b>)>
         + Copy,
-    ReadExpression: for<'b> Fn(
+    ReadExpression: for<'b> FnOnce(
         Global,
         Depth,
         &mut SubstitutionTable,
         IndexStr<'b>,
     ) -> Result<(Expression, IndexStr<'b>)>
         + Copy,
-    ReadArgument: for<'b> Fn(
+    ReadArgument: for<'b> FnOnce(
         Global,
         Depth,
         &mut SubstitutionTable,
         IndexStr<'b>,
     ) -> Result<(TemplateArg, IndexStr<'b>)>
         + Copy,
-    ReadName: for<'b> Fn(
+    ReadName: for<'b> FnOnce(
         Global,
         Depth,
         &mut SubstitutionTable,
         IndexStr<'b>,
     ) -> Result<(Name, IndexStr<'b>)>
         + Copy,
-    ReadEncoding: for<'b> Fn(
+    ReadEncoding: for<'b> FnOnce(
         Global,
         Depth,
         &mut SubstitutionTable,
         IndexStr<'b>,
     ) -> Result<(Encoding, IndexStr<'b>)>
         + Copy,
-    ReadMangledName: for<'b> Fn(
+    ReadMangledName: for<'b> FnOnce(
         Global,
         Depth,
         &mut SubstitutionTable,

@@ -28,7 +28,8 @@ pub(crate) enum Part<'subs> {
 }
 
 /// Functions for the lines through which recursion goes, and the place at which they are called. They are passed by
-/// name, so that they may be called by lines of other crates.
+/// name, so that they may be called by lines of other crates, and under `FnOnce`, since they are copied with it: there
+/// is one way then to call each, where `Fn` has three, each of which would be a member of that recursion.
 #[derive(Clone, Copy)]
 pub(crate) struct Tied<'subs, PrintNamed, PrintPart> {
     pub depth: Depth<'subs>,
@@ -39,14 +40,14 @@ pub(crate) struct Tied<'subs, PrintNamed, PrintPart> {
 impl<'subs, W, PrintNamed, PrintPart> Below<'subs, W> for Tied<'subs, PrintNamed, PrintPart>
 where
     W: DemangleWrite,
-    PrintNamed: for<'prev, 'w> Fn(
+    PrintNamed: for<'prev, 'w> FnOnce(
         Named<'subs>,
         Option<ArgScopeStack<'prev, 'subs>>,
         &mut DemangleContext<'subs, 'w, W>,
         Depth<'subs>,
     )
         + Copy,
-    PrintPart: for<'prev, 'w> Fn(
+    PrintPart: for<'prev, 'w> FnOnce(
         Part<'subs>,
         Option<ArgScopeStack<'prev, 'subs>>,
         &mut DemangleContext<'subs, 'w, W>,
