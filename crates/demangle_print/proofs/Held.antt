@@ -16,7 +16,7 @@ use Rattle.demangle_meets.specs.Place.{Refers, world_of}
 use Rattle.demangle_print_types.proofs.Itself.{type_is_itself}
 use Rattle.demangle_print_names.proofs.Itself.{prefix_is_itself}
 use Rattle.demangle_print_expressions.proofs.Itself.{expression_is_itself, unresolved_is_itself}
-use Rattle.demangle_print.specs.Held.{held_in}
+use Rattle.demangle_print_components.specs.Held.{held_in}
 
 pub mangled_name_is_itself : (r : Refers) (x : MangledName) →
     of_part (world_of r) (Some (tree_of_mangled_name x)) ≡ Some (tree_of_mangled_name x)

@@ -2,7 +2,6 @@
 #![tactic(auto)]
 
 mod arguments;
-mod components;
 mod demangle;
 mod expressions;
 mod functions;

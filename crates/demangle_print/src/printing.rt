@@ -6,9 +6,9 @@ ghost use Rattle.demangle_print_below.specs.PageOf.{page};
 ghost use Rattle.demangle_print_below.specs.PlaceOf.{place_of};
 ghost use Rattle.demangle_print.specs.MayPrint.{DoesNamed, DoesPart};
 
-use crate::components::substitutable_steps;
 use crate::tied::{Named, Part, Tied};
 use demangle_print_below::Depth;
+use demangle_print_components::substitutable_steps;
 use demangle_print_expressions::{expression_steps, template_arg_steps};
 use demangle_print_names::{encoding_steps, mangled_name_steps, name_steps};
 use demangle_print_types::inner_steps;

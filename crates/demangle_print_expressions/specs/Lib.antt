@@ -1,4 +1,5 @@
 pub mod Made
 pub mod Shapes
+pub mod Shaped
 pub mod Literals
 pub mod Levels

@@ -1,9 +1,11 @@
 //! The line of an expression, by its variant.
 
+ghost use Rattle.std.specs.Prelude.{◌≡◌, true};
 ghost use Rattle.demangle_nodes.specs.TreeNodes.{tree_of_expression};
 ghost use Rattle.demangle_meets.specs.Meets.{Line};
 ghost use Rattle.demangle_scope.specs.ScopeOf.{scope_of};
 ghost use Rattle.demangle_print_below.specs.PageOf.{page};
+ghost use Rattle.demangle_print_expressions.specs.Shaped.{is_shaped};
 
 use crate::arguments::function_param;
 use crate::calls::{braced_init_list, call, conversion_braced, conversion_many, conversion_one};
@@ -39,8 +41,6 @@ pub fn expression_steps<'subs, W: DemangleWrite, B: Below<'subs, W>>(
         Expression::Ternary(operator, first, second, third) => {
             ternary(below, operator, first, second, third, scope, ctx);
         }
-        Expression::PrefixInc(operand) => led(below, "++", operand, scope, ctx),
-        Expression::PrefixDec(operand) => led(below, "--", operand, scope, ctx),
         Expression::Fold(fold) => fold_expr(below, fold, scope, ctx),
         Expression::Call(callee, args) => call(below, callee, args.as_slice(), scope, ctx),
         Expression::ConversionOne(ty, operand) => conversion_one(below, ty, operand, scope, ctx),
@@ -51,6 +51,42 @@ pub fn expression_steps<'subs, W: DemangleWrite, B: Below<'subs, W>>(
             conversion_braced(below, ty, list.as_slice(), scope, ctx);
         }
         Expression::BracedInitList(list) => braced_init_list(below, list.as_slice(), scope, ctx),
+        Expression::SizeofTemplatePack(param) => sizeof_template_pack(below, param, scope, ctx),
+        Expression::SizeofFunctionPack(param) => sizeof_function_pack(below, param, ctx),
+        Expression::SizeofCapturedTemplatePack(args) => {
+            sizeof_captured_pack(below, args.as_slice(), scope, ctx);
+        }
+        Expression::Member(object, name) => member(below, object, name, scope, ctx),
+        Expression::DerefMember(object, name) => deref_member(below, object, name, scope, ctx),
+        Expression::PointerToMember(left, right) => {
+            pointer_to_member(below, left, right, scope, ctx);
+        }
+        Expression::Subobject(part) => subobject_expr(below, part, scope, ctx),
+        Expression::TemplateParam(param) => template_param(below, param, scope, ctx),
+        Expression::FunctionParam(param) => function_param(below, param, ctx),
+        Expression::PackExpansion(operand) => pack_expansion(below, operand, scope, ctx),
+        Expression::Rethrow => ctx.text("throw"),
+        Expression::UnresolvedName(name) => unresolved_name(below, name, scope, ctx),
+        Expression::Primary(primary) => expr_primary(below, primary, scope, ctx),
+        _ => shaped_steps(below, node, scope, ctx),
+    }
+}
+
+/// An expression of a shape that several kinds have, by its word. What has a line of its own doesn't come here.
+fn shaped_steps<'subs, W: DemangleWrite, B: Below<'subs, W>>(
+    below: B,
+    node: &'subs Expression,
+    scope: Option<ArgScopeStack<'_, 'subs>>,
+    ctx: &mut DemangleContext<'subs, '_, W>,
+)
+    requires can { B.can below }
+    requires shaped { is_shaped node.now ≡ true }
+    ensures { Line (B.at below) (page W.seen ctx.old) (page W.seen ctx.new) (tree_of_expression node.now)
+        (scope_of scope.entry) }
+{
+    match node {
+        Expression::PrefixInc(operand) => led(below, "++", operand, scope, ctx),
+        Expression::PrefixDec(operand) => led(below, "--", operand, scope, ctx),
         Expression::DynamicCast(ty, operand) => {
             cast(below, "dynamic_cast<", ty, operand, scope, ctx);
         }
@@ -84,23 +120,7 @@ pub fn expression_steps<'subs, W: DemangleWrite, B: Below<'subs, W>>(
         Expression::AlignofType(ty) => enclosed_type(below, "alignof (", ty, scope, ctx),
         Expression::AlignofExpr(operand) => enclosed(below, "alignof (", operand, scope, ctx),
         Expression::Noexcept(operand) => enclosed(below, "noexcept (", operand, scope, ctx),
-        Expression::SizeofTemplatePack(param) => sizeof_template_pack(below, param, scope, ctx),
-        Expression::SizeofFunctionPack(param) => sizeof_function_pack(below, param, ctx),
-        Expression::SizeofCapturedTemplatePack(args) => {
-            sizeof_captured_pack(below, args.as_slice(), scope, ctx);
-        }
-        Expression::Member(object, name) => member(below, object, name, scope, ctx),
-        Expression::DerefMember(object, name) => deref_member(below, object, name, scope, ctx),
-        Expression::PointerToMember(left, right) => {
-            pointer_to_member(below, left, right, scope, ctx);
-        }
-        Expression::Subobject(part) => subobject_expr(below, part, scope, ctx),
-        Expression::TemplateParam(param) => template_param(below, param, scope, ctx),
-        Expression::FunctionParam(param) => function_param(below, param, ctx),
-        Expression::PackExpansion(operand) => pack_expansion(below, operand, scope, ctx),
         Expression::Throw(operand) => led(below, "throw ", operand, scope, ctx),
-        Expression::Rethrow => ctx.text("throw"),
-        Expression::UnresolvedName(name) => unresolved_name(below, name, scope, ctx),
-        Expression::Primary(primary) => expr_primary(below, primary, scope, ctx),
+        _ => {}
     }
 }

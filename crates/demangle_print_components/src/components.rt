@@ -2,7 +2,7 @@
 
 ghost use Rattle.demangle_meets.specs.Meets.{Line};
 ghost use Rattle.demangle_scope.specs.ScopeOf.{scope_of};
-ghost use Rattle.demangle_print.specs.Held.{held_in};
+ghost use Rattle.demangle_print_components.specs.Held.{held_in};
 ghost use Rattle.demangle_print_below.specs.PageOf.{page};
 
 use demangle_print_below::Below;
@@ -15,7 +15,7 @@ use demangle_scope::{ArgScopeStack, DemangleContext, DemangleWrite};
 use demangle_tree::Substitutable;
 
 /// What a component holds, its level entered.
-pub(crate) fn substitutable_steps<'subs, W: DemangleWrite, B: Below<'subs, W>>(
+pub fn substitutable_steps<'subs, W: DemangleWrite, B: Below<'subs, W>>(
     below: B,
     node: &'subs Substitutable,
     scope: Option<ArgScopeStack<'_, 'subs>>,

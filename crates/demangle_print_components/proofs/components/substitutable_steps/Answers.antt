@@ -1,8 +1,8 @@
 use Rattle.std.proofs.Common.{sym}
 use Rattle.demangle_nodes.specs.TreeNodes.{tree_of_expression}
 use Rattle.demangle_meets.proofs.Parts.{line_at}
-use Rattle.demangle_print.specs.Held.{held_in}
-use Rattle.demangle_print.proofs.components.substitutable_steps.Goals as goal
+use Rattle.demangle_print_components.specs.Held.{held_in}
+use Rattle.demangle_print_components.proofs.components.substitutable_steps.Goals as goal
 
 pub returns-in-UnscopedTemplateName : goal.returns-in-UnscopedTemplateName
 returns-in-UnscopedTemplateName g c =
