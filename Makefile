@@ -1,11 +1,11 @@
-# The two commands of the README. From nothing either takes 45 minutes to two hours, since all is proved. Some kits keep
-# on the machine what passed, and a later run proves only what changed; others begin anew each time.
+# The two commands of the README. From nothing either takes 45 minutes to three hours, since all is proved. Some kits
+# keep on the machine what passed, and a later run proves only what changed; others begin anew each time.
 .PHONY: cppfilt test
 
 # The gate, which proves and builds the program, and leaves it here as ./cppfilt.
 cppfilt:
 	@log=$$(mktemp); \
-	echo "proving and building cppfilt: 45 minutes to two hours the first time; how far it is stands in $$log"; \
+	echo "proving and building cppfilt: 45 minutes to three hours the first time; how far it is stands in $$log"; \
 	if rt ci > "$$log" 2>&1; then \
 	    rm -f "$$log"; \
 	else \
