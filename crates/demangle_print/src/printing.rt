@@ -8,8 +8,8 @@ ghost use Rattle.demangle_print.specs.MayPrint.{DoesNamed, DoesPart};
 
 use crate::tied::{Named, Part, Tied};
 use demangle_print_below::Depth;
-use demangle_print_components::substitutable_steps;
-use demangle_print_expressions::{expression_steps, template_arg_steps};
+use demangle_print_components::{expression_steps, substitutable_steps};
+use demangle_print_expressions::template_arg_steps;
 use demangle_print_names::{encoding_steps, mangled_name_steps, name_steps};
 use demangle_print_types::inner_steps;
 use demangle_scope::{ArgScopeStack, DemangleContext, DemangleWrite};

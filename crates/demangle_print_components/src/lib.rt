@@ -1,6 +1,8 @@
-//! The line of a component of the table, which chooses among lines of types, names and expressions.
+//! The lines that choose among others by the kind of a node: of expressions, and of components of the table.
 #![tactic(auto)]
 
 mod components;
+mod expressions;
 
 pub use components::substitutable_steps;
+pub use expressions::expression_steps;

@@ -1,6 +1,5 @@
 pub mod Chosen
 pub mod Itself
 pub mod Lists
-pub mod Shaped
 pub mod Signs
 pub mod Words

@@ -15,7 +15,7 @@ use demangle_scope::{ArgScopeStack, DemangleContext, DemangleWrite};
 use demangle_tree::{Expression, Initializer, TypeHandle};
 
 /// `(g)(1, 2)`.
-pub(crate) fn call<'subs, W: DemangleWrite, B: Below<'subs, W>>(
+pub fn call<'subs, W: DemangleWrite, B: Below<'subs, W>>(
     below: B,
     callee: &'subs Expression,
     args: &'subs [Expression],
@@ -33,7 +33,7 @@ pub(crate) fn call<'subs, W: DemangleWrite, B: Below<'subs, W>>(
 }
 
 /// `(int)(g)`.
-pub(crate) fn conversion_one<'subs, W: DemangleWrite, B: Below<'subs, W>>(
+pub fn conversion_one<'subs, W: DemangleWrite, B: Below<'subs, W>>(
     below: B,
     handle: &'subs TypeHandle,
     node: &'subs Expression,
@@ -53,7 +53,7 @@ pub(crate) fn conversion_one<'subs, W: DemangleWrite, B: Below<'subs, W>>(
 }
 
 /// `T(1, 2)`.
-pub(crate) fn conversion_many<'subs, W: DemangleWrite, B: Below<'subs, W>>(
+pub fn conversion_many<'subs, W: DemangleWrite, B: Below<'subs, W>>(
     below: B,
     handle: &'subs TypeHandle,
     nodes: &'subs [Expression],
@@ -72,7 +72,7 @@ pub(crate) fn conversion_many<'subs, W: DemangleWrite, B: Below<'subs, W>>(
 }
 
 /// `T{1, 2}`.
-pub(crate) fn conversion_braced<'subs, W: DemangleWrite, B: Below<'subs, W>>(
+pub fn conversion_braced<'subs, W: DemangleWrite, B: Below<'subs, W>>(
     below: B,
     handle: &'subs TypeHandle,
     nodes: &'subs [Expression],
@@ -91,7 +91,7 @@ pub(crate) fn conversion_braced<'subs, W: DemangleWrite, B: Below<'subs, W>>(
 }
 
 /// `{1, 2}`.
-pub(crate) fn braced_init_list<'subs, W: DemangleWrite, B: Below<'subs, W>>(
+pub fn braced_init_list<'subs, W: DemangleWrite, B: Below<'subs, W>>(
     below: B,
     nodes: &'subs [Expression],
     scope: Option<ArgScopeStack<'_, 'subs>>,

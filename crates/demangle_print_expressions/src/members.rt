@@ -14,7 +14,7 @@ use demangle_scope::{ArgScopeStack, DemangleContext, DemangleWrite};
 use demangle_tree::{Expression, GetTemplateArgs, MemberName, Name, SubobjectExpr};
 
 /// `(g).x`.
-pub(crate) fn member<'subs, W: DemangleWrite, B: Below<'subs, W>>(
+pub fn member<'subs, W: DemangleWrite, B: Below<'subs, W>>(
     below: B,
     object: &'subs Expression,
     name: &'subs MemberName,
@@ -32,7 +32,7 @@ pub(crate) fn member<'subs, W: DemangleWrite, B: Below<'subs, W>>(
 }
 
 /// `g->x`.
-pub(crate) fn deref_member<'subs, W: DemangleWrite, B: Below<'subs, W>>(
+pub fn deref_member<'subs, W: DemangleWrite, B: Below<'subs, W>>(
     below: B,
     object: &'subs Expression,
     name: &'subs MemberName,
@@ -50,7 +50,7 @@ pub(crate) fn deref_member<'subs, W: DemangleWrite, B: Below<'subs, W>>(
 }
 
 /// `g.*h`.
-pub(crate) fn pointer_to_member<'subs, W: DemangleWrite, B: Below<'subs, W>>(
+pub fn pointer_to_member<'subs, W: DemangleWrite, B: Below<'subs, W>>(
     below: B,
     object: &'subs Expression,
     member: &'subs Expression,

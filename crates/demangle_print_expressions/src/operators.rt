@@ -43,7 +43,7 @@ fn stands_behind(operator: &OperatorName) -> bool
 }
 
 /// An operator with one operand. `++` and `--` stand behind theirs: the prefix forms are other nodes.
-pub(crate) fn unary<'subs, W: DemangleWrite, B: Below<'subs, W>>(
+pub fn unary<'subs, W: DemangleWrite, B: Below<'subs, W>>(
     below: B,
     operator: &'subs OperatorName,
     node: &'subs Expression,
@@ -65,7 +65,7 @@ pub(crate) fn unary<'subs, W: DemangleWrite, B: Below<'subs, W>>(
 }
 
 /// An operator with two operands. Parentheses keep `>` from ending template arguments.
-pub(crate) fn binary<'subs, W: DemangleWrite, B: Below<'subs, W>>(
+pub fn binary<'subs, W: DemangleWrite, B: Below<'subs, W>>(
     below: B,
     operator: &'subs OperatorName,
     left: &'subs Expression,
@@ -93,7 +93,7 @@ pub(crate) fn binary<'subs, W: DemangleWrite, B: Below<'subs, W>>(
 }
 
 /// An operator with three operands: `(g)?(1) : (2)`, and any other than `?` as a call.
-pub(crate) fn ternary<'subs, W: DemangleWrite, B: Below<'subs, W>>(
+pub fn ternary<'subs, W: DemangleWrite, B: Below<'subs, W>>(
     below: B,
     operator: &'subs OperatorName,
     first: &'subs Expression,

@@ -59,7 +59,7 @@ pub(crate) fn operand<'subs, W: DemangleWrite, B: Below<'subs, W>>(
 }
 
 /// A word, and an expression behind it.
-pub(crate) fn led<'subs, W: DemangleWrite, B: Below<'subs, W>>(
+pub fn led<'subs, W: DemangleWrite, B: Below<'subs, W>>(
     below: B,
     word: &str,
     node: &'subs Expression,
@@ -75,7 +75,7 @@ pub(crate) fn led<'subs, W: DemangleWrite, B: Below<'subs, W>>(
 }
 
 /// A word that opens a parenthesis, an expression, and the closing parenthesis.
-pub(crate) fn enclosed<'subs, W: DemangleWrite, B: Below<'subs, W>>(
+pub fn enclosed<'subs, W: DemangleWrite, B: Below<'subs, W>>(
     below: B,
     word: &str,
     node: &'subs Expression,
@@ -92,7 +92,7 @@ pub(crate) fn enclosed<'subs, W: DemangleWrite, B: Below<'subs, W>>(
 }
 
 /// A word that opens a parenthesis, a type, and the closing parenthesis.
-pub(crate) fn enclosed_type<'subs, W: DemangleWrite, B: Below<'subs, W>>(
+pub fn enclosed_type<'subs, W: DemangleWrite, B: Below<'subs, W>>(
     below: B,
     word: &str,
     handle: &'subs TypeHandle,
@@ -109,7 +109,7 @@ pub(crate) fn enclosed_type<'subs, W: DemangleWrite, B: Below<'subs, W>>(
 }
 
 /// `static_cast<T>(g)`, with the word that opens it, as `static_cast<`.
-pub(crate) fn cast<'subs, W: DemangleWrite, B: Below<'subs, W>>(
+pub fn cast<'subs, W: DemangleWrite, B: Below<'subs, W>>(
     below: B,
     word: &str,
     handle: &'subs TypeHandle,
@@ -130,7 +130,7 @@ pub(crate) fn cast<'subs, W: DemangleWrite, B: Below<'subs, W>>(
 }
 
 /// `(g)...`.
-pub(crate) fn pack_expansion<'subs, W: DemangleWrite, B: Below<'subs, W>>(
+pub fn pack_expansion<'subs, W: DemangleWrite, B: Below<'subs, W>>(
     below: B,
     node: &'subs Expression,
     scope: Option<ArgScopeStack<'_, 'subs>>,

@@ -15,7 +15,7 @@ use demangle_scope::{ArgScopeStack, DemangleContext, DemangleWrite};
 use demangle_tree::{FunctionParam, TemplateArg, TemplateParam};
 
 /// `sizeof...(int, char)`, of the template parameter that stands for these.
-pub(crate) fn sizeof_template_pack<'subs, W: DemangleWrite, B: Below<'subs, W>>(
+pub fn sizeof_template_pack<'subs, W: DemangleWrite, B: Below<'subs, W>>(
     below: B,
     node: &TemplateParam,
     scope: Option<ArgScopeStack<'_, 'subs>>,
@@ -31,7 +31,7 @@ pub(crate) fn sizeof_template_pack<'subs, W: DemangleWrite, B: Below<'subs, W>>(
 }
 
 /// `sizeof...({parm#1})`.
-pub(crate) fn sizeof_function_pack<'subs, W: DemangleWrite, B: Below<'subs, W>>(
+pub fn sizeof_function_pack<'subs, W: DemangleWrite, B: Below<'subs, W>>(
     below: B,
     node: &FunctionParam,
     ctx: &mut DemangleContext<'subs, '_, W>,
@@ -46,7 +46,7 @@ pub(crate) fn sizeof_function_pack<'subs, W: DemangleWrite, B: Below<'subs, W>>(
 }
 
 /// `sizeof...(int, char)`, of the arguments themselves.
-pub(crate) fn sizeof_captured_pack<'subs, W: DemangleWrite, B: Below<'subs, W>>(
+pub fn sizeof_captured_pack<'subs, W: DemangleWrite, B: Below<'subs, W>>(
     below: B,
     nodes: &'subs [TemplateArg],
     scope: Option<ArgScopeStack<'_, 'subs>>,

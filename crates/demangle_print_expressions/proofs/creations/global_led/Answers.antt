@@ -1,5 +1,5 @@
 use Rattle.demangle_meets.proofs.Acts.{meets_text}
-use Rattle.demangle_print_expressions.proofs.creation.global_led.Goals as goal
+use Rattle.demangle_print_expressions.proofs.creations.global_led.Goals as goal
 
 pub returns : goal.returns
 returns g c = meets_text c.text.ensures c.led.ensures

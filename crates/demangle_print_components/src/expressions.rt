@@ -5,19 +5,16 @@ ghost use Rattle.demangle_nodes.specs.TreeNodes.{tree_of_expression};
 ghost use Rattle.demangle_meets.specs.Meets.{Line};
 ghost use Rattle.demangle_scope.specs.ScopeOf.{scope_of};
 ghost use Rattle.demangle_print_below.specs.PageOf.{page};
-ghost use Rattle.demangle_print_expressions.specs.Shaped.{is_shaped};
+ghost use Rattle.demangle_print_components.specs.Shaped.{is_shaped};
 
-use crate::arguments::function_param;
-use crate::calls::{braced_init_list, call, conversion_braced, conversion_many, conversion_one};
-use crate::creation::{creation, global_creation, global_led};
-use crate::folds::fold_expr;
-use crate::literals::expr_primary;
-use crate::members::{deref_member, member, pointer_to_member, subobject_expr};
-use crate::operators::{binary, ternary, unary};
-use crate::shapes::{cast, enclosed, enclosed_type, led, pack_expansion};
-use crate::sizes::{sizeof_captured_pack, sizeof_function_pack, sizeof_template_pack};
-use crate::unresolved::unresolved_name;
 use demangle_print_below::Below;
+use demangle_print_expressions::{
+    binary, braced_init_list, call, cast, conversion_braced, conversion_many, conversion_one,
+    creation, deref_member, enclosed, enclosed_type, expr_primary, fold_expr, function_param,
+    global_creation, global_led, led, member, pack_expansion, pointer_to_member,
+    sizeof_captured_pack, sizeof_function_pack, sizeof_template_pack, subobject_expr, ternary,
+    unary, unresolved_name,
+};
 use demangle_print_parts::template_param;
 use demangle_scope::{ArgScopeStack, DemangleContext, DemangleWrite};
 use demangle_tree::Expression;

@@ -11,9 +11,9 @@ use Rattle.demangle_nodes.proofs.Parts.{expression_typeid_expr, expression_typei
 use Rattle.demangle_printing.specs.Print.{body}
 use Rattle.demangle_printing.specs.Lines.{line_steps}
 use Rattle.demangle_meets.proofs.Parts.{line_parts}
-use Rattle.demangle_print_expressions.specs.Shaped.{shaped_kinds}
-use Rattle.demangle_print_expressions.proofs.Shaped.{none_of}
-use Rattle.demangle_print_expressions.proofs.expression.shaped_steps.Goals as goal
+use Rattle.demangle_print_components.specs.Shaped.{shaped_kinds}
+use Rattle.demangle_print_components.proofs.Shaped.{none_of}
+use Rattle.demangle_print_components.proofs.expressions.shaped_steps.Goals as goal
 
 pub returns-in-PrefixInc : goal.returns-in-PrefixInc
 unfolding body line_steps

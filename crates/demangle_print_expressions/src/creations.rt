@@ -35,7 +35,7 @@ fn optional_initializer<'subs, W: DemangleWrite, B: Below<'subs, W>>(
 }
 
 /// `new (g) int(1)`, with the word that opens it, as `new (`.
-pub(crate) fn creation<'subs, W: DemangleWrite, B: Below<'subs, W>>(
+pub fn creation<'subs, W: DemangleWrite, B: Below<'subs, W>>(
     below: B,
     word: &str,
     placement: &'subs [Expression],
@@ -58,7 +58,7 @@ pub(crate) fn creation<'subs, W: DemangleWrite, B: Below<'subs, W>>(
 }
 
 /// `::new (g) int(1)`, with the word behind `::`.
-pub(crate) fn global_creation<'subs, W: DemangleWrite, B: Below<'subs, W>>(
+pub fn global_creation<'subs, W: DemangleWrite, B: Below<'subs, W>>(
     below: B,
     word: &str,
     placement: &'subs [Expression],
@@ -78,7 +78,7 @@ pub(crate) fn global_creation<'subs, W: DemangleWrite, B: Below<'subs, W>>(
 }
 
 /// `::delete g`, with the word behind `::`.
-pub(crate) fn global_led<'subs, W: DemangleWrite, B: Below<'subs, W>>(
+pub fn global_led<'subs, W: DemangleWrite, B: Below<'subs, W>>(
     below: B,
     word: &str,
     node: &'subs Expression,

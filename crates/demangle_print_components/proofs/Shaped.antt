@@ -4,7 +4,7 @@ use Rattle.demangle_core.specs.Core.{Tag, code}
 use Rattle.demangle_nodes.specs.declared.nodes.Expression.{Expression}
 use Rattle.demangle_nodes.specs.declared.nodes.Expression.TheVariants as of_expression
 use Rattle.demangle_nodes.proofs.Other.{NotExpression, other_expression}
-use Rattle.demangle_print_expressions.specs.Shaped.{is_one_of, own_kinds, shaped_kinds, is_shaped}
+use Rattle.demangle_print_components.specs.Shaped.{is_one_of, own_kinds, shaped_kinds, is_shaped}
 
 -- it is of none of these kinds
 abbrev pub IsNone : List Tag → Expression → Type 0
