@@ -1,15 +1,30 @@
--- Each expression has a line of its own or one of the shapes, and not both are asked.
+-- What is of none of the kinds that have a line of their own is of one of the shapes.
 use Rattle.std.proofs.Common.{◌≡◌, refl, sym, ◌∙◌, ap, Bool, true, false, ◌||◌, List, [], ◌∷◌}
 use Rattle.demangle_core.specs.Core.{Tag, code}
 use Rattle.demangle_nodes.specs.declared.nodes.Expression.{Expression}
 use Rattle.demangle_nodes.specs.declared.nodes.Expression.TheVariants as of_expression
 use Rattle.demangle_nodes.proofs.Other.{NotExpression, other_expression}
-use Rattle.demangle_print_components.specs.Shaped.{is_one_of, own_kinds, shaped_kinds, is_shaped}
+use Rattle.demangle_print_components.specs.Shaped.{is_one_of, is_shaped}
+
+abbrev pub own_kinds : List Tag
+own_kinds =
+    Tag.ExpressionUnary ∷ Tag.ExpressionBinary ∷ Tag.ExpressionTernary ∷ Tag.ExpressionFold ∷ Tag.ExpressionCall
+    ∷ Tag.ExpressionConversionOne ∷ Tag.ExpressionConversionMany ∷ Tag.ExpressionConversionBraced
+    ∷ Tag.ExpressionBracedInitList ∷ Tag.ExpressionSizeofTemplatePack ∷ Tag.ExpressionSizeofFunctionPack
+    ∷ Tag.ExpressionSizeofCapturedTemplatePack ∷ Tag.ExpressionMember ∷ Tag.ExpressionDerefMember
+    ∷ Tag.ExpressionPointerToMember ∷ Tag.ExpressionSubobject ∷ Tag.ExpressionTemplateParam
+    ∷ Tag.ExpressionFunctionParam ∷ Tag.ExpressionPackExpansion ∷ Tag.ExpressionRethrow
+    ∷ Tag.ExpressionUnresolvedName ∷ Tag.ExpressionPrimary ∷ []
 
 -- it is of none of these kinds
 abbrev pub IsNone : List Tag → Expression → Type 0
 IsNone [] x = Unit
 IsNone (t ∷ ts) x = NotExpression (code t) x × IsNone ts x
+
+-- the same, told kind by kind
+infixr 30 ◌also◌
+pub ◌also◌ : {A B : Type 0} → A → B → A × B
+◌also◌ a b = (a, b)
 
 pub none_of : (ts : List Tag) (x : Expression) → IsNone ts x → is_one_of ts x ≡ false
 none_of [] x h = refl

@@ -1,5 +1,5 @@
--- The kinds of expressions, by what prints them: lines of their own, or shapes that several have (a word and a part, a
--- cast, a part in parentheses, a creation).
+-- The kinds of expressions whose line is a shape that several have: a word and a part, a cast, a part in parentheses,
+-- a creation.
 use Rattle.std.specs.Prelude.{Bool, false, ◌==◌, ◌||◌, List, [], ◌∷◌}
 use Rattle.demangle_core.specs.Core.{Tag, code}
 use Rattle.demangle_nodes.specs.declared.nodes.Expression.{Expression}
@@ -8,16 +8,6 @@ use Rattle.demangle_nodes.specs.TreeNodes.{tag_of_expression}
 abbrev pub is_one_of : List Tag → Expression → Bool
 is_one_of [] x = false
 is_one_of (t ∷ ts) x = (code t == code (tag_of_expression x)) || is_one_of ts x
-
-abbrev pub own_kinds : List Tag
-own_kinds =
-    Tag.ExpressionUnary ∷ Tag.ExpressionBinary ∷ Tag.ExpressionTernary ∷ Tag.ExpressionFold ∷ Tag.ExpressionCall
-    ∷ Tag.ExpressionConversionOne ∷ Tag.ExpressionConversionMany ∷ Tag.ExpressionConversionBraced
-    ∷ Tag.ExpressionBracedInitList ∷ Tag.ExpressionSizeofTemplatePack ∷ Tag.ExpressionSizeofFunctionPack
-    ∷ Tag.ExpressionSizeofCapturedTemplatePack ∷ Tag.ExpressionMember ∷ Tag.ExpressionDerefMember
-    ∷ Tag.ExpressionPointerToMember ∷ Tag.ExpressionSubobject ∷ Tag.ExpressionTemplateParam
-    ∷ Tag.ExpressionFunctionParam ∷ Tag.ExpressionPackExpansion ∷ Tag.ExpressionRethrow
-    ∷ Tag.ExpressionUnresolvedName ∷ Tag.ExpressionPrimary ∷ []
 
 abbrev pub shaped_kinds : List Tag
 shaped_kinds =

@@ -13,7 +13,7 @@ use Rattle.demangle_printing.specs.Print.{body}
 use Rattle.demangle_printing.specs.Lines.{line_steps}
 use Rattle.demangle_meets.proofs.Acts.{meets_done, meets_text}
 use Rattle.demangle_meets.proofs.Parts.{line_parts, meets_part}
-use Rattle.demangle_print_components.proofs.Shaped.{shaped_else}
+use Rattle.demangle_print_components.proofs.Shaped.{◌also◌, shaped_else}
 use Rattle.demangle_print_components.proofs.expressions.expression_steps.Goals as goal
 
 pub returns-in-Unary : goal.returns-in-Unary
@@ -153,62 +153,15 @@ shaped_steps-requires g c κs = (
   (
     c.requires,
     shaped_else c.args.node.now (
-      c.in_default.not-Unary,
-      (
-        c.in_default.not-Binary,
-        (
-          c.in_default.not-Ternary,
-          (
-            c.in_default.not-Fold,
-            (
-              c.in_default.not-Call,
-              (
-                c.in_default.not-ConversionOne,
-                (
-                  c.in_default.not-ConversionMany,
-                  (
-                    c.in_default.not-ConversionBraced,
-                    (
-                      c.in_default.not-BracedInitList,
-                      (
-                        c.in_default.not-SizeofTemplatePack,
-                        (
-                          c.in_default.not-SizeofFunctionPack,
-                          (
-                            c.in_default.not-SizeofCapturedTemplatePack,
-                            (
-                              c.in_default.not-Member,
-                              (
-                                c.in_default.not-DerefMember,
-                                (
-                                  c.in_default.not-PointerToMember,
-                                  (
-                                    c.in_default.not-Subobject,
-                                    (
-                                      c.in_default.not-TemplateParam,
-                                      (
-                                        c.in_default.not-FunctionParam,
-                                        (
-                                          c.in_default.not-PackExpansion,
-                                          (c.in_default.not-Rethrow, (c.in_default.not-UnresolvedName, (c.in_default.not-Primary, _))),
-                                        ),
-                                      ),
-                                    ),
-                                  ),
-                                ),
-                              ),
-                            ),
-                          ),
-                        ),
-                      ),
-                    ),
-                  ),
-                ),
-              ),
-            ),
-          ),
+        c.in_default.not-Unary also c.in_default.not-Binary also c.in_default.not-Ternary also
+        c.in_default.not-Fold also c.in_default.not-Call also c.in_default.not-ConversionOne also
+        c.in_default.not-ConversionMany also c.in_default.not-ConversionBraced also
+        c.in_default.not-BracedInitList also c.in_default.not-SizeofTemplatePack also
+        c.in_default.not-SizeofFunctionPack also c.in_default.not-SizeofCapturedTemplatePack also
+        c.in_default.not-Member also c.in_default.not-DerefMember also c.in_default.not-PointerToMember also
+        c.in_default.not-Subobject also c.in_default.not-TemplateParam also c.in_default.not-FunctionParam also
+        c.in_default.not-PackExpansion also c.in_default.not-Rethrow also c.in_default.not-UnresolvedName also
+        c.in_default.not-Primary also tt
         ),
-      ),
-    ),
   ),
 )

@@ -12,7 +12,7 @@ use Rattle.demangle_printing.specs.Print.{body}
 use Rattle.demangle_printing.specs.Lines.{line_steps}
 use Rattle.demangle_meets.proofs.Parts.{line_parts}
 use Rattle.demangle_print_components.specs.Shaped.{shaped_kinds}
-use Rattle.demangle_print_components.proofs.Shaped.{none_of}
+use Rattle.demangle_print_components.proofs.Shaped.{◌also◌, none_of}
 use Rattle.demangle_print_components.proofs.expressions.shaped_steps.Goals as goal
 
 pub returns-in-PrefixInc : goal.returns-in-PrefixInc
@@ -186,66 +186,12 @@ returns-in-Throw g c =
 pub returns-in_default : goal.returns-in_default
 returns-in_default g c =
     absurd (true≢false (sym c.requires.shaped ∙ none_of shaped_kinds c.args.node.now (
-      c.in_default.not-PrefixInc,
-      (
-        c.in_default.not-PrefixDec,
-        (
-          c.in_default.not-DynamicCast,
-          (
-            c.in_default.not-StaticCast,
-            (
-              c.in_default.not-ConstCast,
-              (
-                c.in_default.not-ReinterpretCast,
-                (
-                  c.in_default.not-New,
-                  (
-                    c.in_default.not-NewArray,
-                    (
-                      c.in_default.not-GlobalNew,
-                      (
-                        c.in_default.not-GlobalNewArray,
-                        (
-                          c.in_default.not-Delete,
-                          (
-                            c.in_default.not-DeleteArray,
-                            (
-                              c.in_default.not-GlobalDelete,
-                              (
-                                c.in_default.not-GlobalDeleteArray,
-                                (
-                                  c.in_default.not-TypeidType,
-                                  (
-                                    c.in_default.not-TypeidExpr,
-                                    (
-                                      c.in_default.not-SizeofType,
-                                      (
-                                        c.in_default.not-SizeofExpr,
-                                        (
-                                          c.in_default.not-AlignofType,
-                                          (
-                                            c.in_default.not-AlignofExpr,
-                                            (
-                                              c.in_default.not-Noexcept,
-                                              (c.in_default.not-Throw, _),
-                                            ),
-                                          ),
-                                        ),
-                                      ),
-                                    ),
-                                  ),
-                                ),
-                              ),
-                            ),
-                          ),
-                        ),
-                      ),
-                    ),
-                  ),
-                ),
-              ),
-            ),
-          ),
-        ),
-      ),
+    c.in_default.not-PrefixInc also c.in_default.not-PrefixDec also c.in_default.not-DynamicCast also
+    c.in_default.not-StaticCast also c.in_default.not-ConstCast also c.in_default.not-ReinterpretCast also
+    c.in_default.not-New also c.in_default.not-NewArray also c.in_default.not-GlobalNew also
+    c.in_default.not-GlobalNewArray also c.in_default.not-Delete also c.in_default.not-DeleteArray also
+    c.in_default.not-GlobalDelete also c.in_default.not-GlobalDeleteArray also c.in_default.not-TypeidType also
+    c.in_default.not-TypeidExpr also c.in_default.not-SizeofType also c.in_default.not-SizeofExpr also
+    c.in_default.not-AlignofType also c.in_default.not-AlignofExpr also c.in_default.not-Noexcept also
+    c.in_default.not-Throw also tt
     )))
