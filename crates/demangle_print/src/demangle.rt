@@ -14,7 +14,7 @@ ghost use Rattle.demangle_print_below.specs.PageOf.{page};
 
 use crate::printer::begin;
 use demangle_print_below::Below;
-use demangle_print_types::parameters;
+use demangle_print_inner::parameters;
 use demangle_scope::{ArgScopeStack, DemangleContext, DemangleError, DemangleWrite, InnerItem};
 use demangle_tree::{ArrayType, FunctionType, PointerToMemberType, TypeHandle, TypeNode};
 

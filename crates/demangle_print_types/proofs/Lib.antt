@@ -1,9 +1,1 @@
-pub mod Behind
-pub mod Counts
-pub mod ArrayComponents
-pub mod Items
 pub mod Itself
-pub mod Lists
-pub mod Turns
-pub mod Voids
-pub mod Wanting

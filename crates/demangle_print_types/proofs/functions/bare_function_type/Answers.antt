@@ -8,7 +8,7 @@ use Rattle.demangle_meets.proofs.Around.{meets_held}
 use Rattle.demangle_meets.proofs.Parts.{meets_found, prints_deep, prints_node}
 use Rattle.demangle_scope.specs.ScopeOf.{scope_of}
 use Rattle.demangle_print_types.specs.Pieces.{first_line}
-use Rattle.demangle_print_types.proofs.Lists.{types_listed}
+use Rattle.demangle_print_parts.proofs.Listed.{types_listed}
 use Rattle.demangle_print_types.proofs.functions.bare_function_type.Goals as goal
 
 pub returns-in_default : goal.returns-in_default

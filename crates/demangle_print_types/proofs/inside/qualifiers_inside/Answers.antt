@@ -1,7 +1,0 @@
-use Rattle.demangle_printing.specs.Print.{body}
-use Rattle.demangle_printing.specs.Lines.{inside_steps}
-use Rattle.demangle_print_types.proofs.inside.qualifiers_inside.Goals as goal
-
-pub returns : goal.returns
-unfolding body inside_steps
-returns g c = λ sc. record { meets = c.qualifier_words.ensures _ }

@@ -1,4 +1,0 @@
-use Rattle.demangle_print_types.proofs.parameter_lists.is_kept.Goals as goal
-
-pub returns-in-Function : goal.returns-in-Function
-returns-in-Function c = λ r. rw c.in-Function.is (c.is_qualified.ensures r)
