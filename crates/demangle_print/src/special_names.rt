@@ -5,7 +5,7 @@ ghost use Rattle.demangle_nodes.specs.TreeNodes.{tree_of_special_name};
 
 use crate::demangle::Demangle;
 use crate::printer::begin;
-use demangle_print_names::{call_offset, resource_name, special_name};
+use demangle_print_special::{call_offset, resource_name, special_name};
 use demangle_scope::{ArgScopeStack, DemangleContext, DemangleError, DemangleWrite};
 use demangle_tree::{CallOffset, ResourceName, SpecialName};
 

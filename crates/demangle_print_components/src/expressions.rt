@@ -1,21 +1,19 @@
 //! The line of an expression, by its variant.
 
-ghost use Rattle.std.specs.Prelude.{◌≡◌, true};
 ghost use Rattle.demangle_nodes.specs.TreeNodes.{tree_of_expression};
 ghost use Rattle.demangle_meets.specs.Meets.{Line};
 ghost use Rattle.demangle_scope.specs.ScopeOf.{scope_of};
 ghost use Rattle.demangle_print_below.specs.PageOf.{page};
-ghost use Rattle.demangle_print_components.specs.Shaped.{is_shaped};
 
 use demangle_print_below::Below;
 use demangle_print_expressions::{
-    binary, braced_init_list, call, cast, conversion_braced, conversion_many, conversion_one,
-    creation, deref_member, enclosed, enclosed_type, expr_primary, fold_expr, function_param,
-    global_creation, global_led, led, member, pack_expansion, pointer_to_member,
-    sizeof_captured_pack, sizeof_function_pack, sizeof_template_pack, subobject_expr, ternary,
-    unary, unresolved_name,
+    binary, braced_init_list, call, conversion_braced, conversion_many, conversion_one,
+    deref_member, expr_primary, fold_expr, function_param, member, pack_expansion,
+    pointer_to_member, sizeof_captured_pack, sizeof_function_pack, sizeof_template_pack,
+    subobject_expr, ternary, unary, unresolved_name,
 };
 use demangle_print_parts::template_param;
+use demangle_print_shapes::shaped_steps;
 use demangle_scope::{ArgScopeStack, DemangleContext, DemangleWrite};
 use demangle_tree::Expression;
 
@@ -66,58 +64,5 @@ pub fn expression_steps<'subs, W: DemangleWrite, B: Below<'subs, W>>(
         Expression::UnresolvedName(name) => unresolved_name(below, name, scope, ctx),
         Expression::Primary(primary) => expr_primary(below, primary, scope, ctx),
         _ => shaped_steps(below, node, scope, ctx),
-    }
-}
-
-/// An expression of a shape that several kinds have, by its word. What has a line of its own doesn't come here.
-fn shaped_steps<'subs, W: DemangleWrite, B: Below<'subs, W>>(
-    below: B,
-    node: &'subs Expression,
-    scope: Option<ArgScopeStack<'_, 'subs>>,
-    ctx: &mut DemangleContext<'subs, '_, W>,
-)
-    requires can { B.can below }
-    requires shaped { is_shaped node.now ≡ true }
-    ensures { Line (B.at below) (page W.seen ctx.old) (page W.seen ctx.new) (tree_of_expression node.now)
-        (scope_of scope.entry) }
-{
-    match node {
-        Expression::PrefixInc(operand) => led(below, "++", operand, scope, ctx),
-        Expression::PrefixDec(operand) => led(below, "--", operand, scope, ctx),
-        Expression::DynamicCast(ty, operand) => {
-            cast(below, "dynamic_cast<", ty, operand, scope, ctx);
-        }
-        Expression::StaticCast(ty, operand) => cast(below, "static_cast<", ty, operand, scope, ctx),
-        Expression::ConstCast(ty, operand) => cast(below, "const_cast<", ty, operand, scope, ctx),
-        Expression::ReinterpretCast(ty, operand) => {
-            cast(below, "reinterpret_cast<", ty, operand, scope, ctx);
-        }
-        Expression::New(list, ty, init) => {
-            creation(below, "new (", list.as_slice(), ty, init, scope, ctx);
-        }
-        Expression::NewArray(list, ty, init) => {
-            creation(below, "new[] (", list.as_slice(), ty, init, scope, ctx);
-        }
-        Expression::GlobalNew(list, ty, init) => {
-            global_creation(below, "new (", list.as_slice(), ty, init, scope, ctx);
-        }
-        Expression::GlobalNewArray(list, ty, init) => {
-            global_creation(below, "new[] (", list.as_slice(), ty, init, scope, ctx);
-        }
-        Expression::Delete(operand) => led(below, "delete ", operand, scope, ctx),
-        Expression::DeleteArray(operand) => led(below, "delete[] ", operand, scope, ctx),
-        Expression::GlobalDelete(operand) => global_led(below, "delete ", operand, scope, ctx),
-        Expression::GlobalDeleteArray(operand) => {
-            global_led(below, "delete[] ", operand, scope, ctx);
-        }
-        Expression::TypeidType(ty) => enclosed_type(below, "typeid (", ty, scope, ctx),
-        Expression::TypeidExpr(operand) => enclosed(below, "typeid (", operand, scope, ctx),
-        Expression::SizeofType(ty) => enclosed_type(below, "sizeof (", ty, scope, ctx),
-        Expression::SizeofExpr(operand) => enclosed(below, "sizeof (", operand, scope, ctx),
-        Expression::AlignofType(ty) => enclosed_type(below, "alignof (", ty, scope, ctx),
-        Expression::AlignofExpr(operand) => enclosed(below, "alignof (", operand, scope, ctx),
-        Expression::Noexcept(operand) => enclosed(below, "noexcept (", operand, scope, ctx),
-        Expression::Throw(operand) => led(below, "throw ", operand, scope, ctx),
-        _ => {}
     }
 }

@@ -2,8 +2,6 @@
 -- their events are printed by a function of its own.
 use Rattle.std.proofs.Common.{◌≡◌, Some, refl}
 use Rattle.demangle_core.specs.Core.{Core}
-use Rattle.demangle_leaf_nodes.specs.declared.leaves.CallOffset.{CallOffset}
-use Rattle.demangle_leaf_nodes.specs.declared.leaves.CallOffset.TheVariants as of_offset
 use Rattle.demangle_leaf_nodes.specs.declared.leaves.CtorDtorName.{CtorDtorName}
 use Rattle.demangle_leaf_nodes.specs.declared.leaves.CtorDtorName.TheVariants as of_ctor_dtor
 use Rattle.demangle_leaf_nodes.specs.declared.leaves.NestedName.{NestedName}
@@ -16,16 +14,12 @@ use Rattle.demangle_nodes.specs.declared.nodes.GlobalCtorDtor.{GlobalCtorDtor}
 use Rattle.demangle_nodes.specs.declared.nodes.GlobalCtorDtor.TheVariants as of_global
 use Rattle.demangle_nodes.specs.declared.nodes.LocalName.{LocalName}
 use Rattle.demangle_nodes.specs.declared.nodes.LocalName.TheVariants as of_local
-use Rattle.demangle_nodes.specs.declared.nodes.SpecialName.{SpecialName}
-use Rattle.demangle_nodes.specs.declared.nodes.SpecialName.TheVariants as of_special
 use Rattle.demangle_entries.specs.declared.entries.Prefix.{Prefix}
 use Rattle.demangle_entries.specs.declared.entries.Prefix.TheVariants as of_prefix
-use Rattle.demangle_leaf_nodes.specs.TreeLeaves.{tree_of_call_offset}
 use Rattle.demangle_leaf_nodes.specs.TreeLeaves.{tree_of_ctor_dtor_name, tree_of_nested_name, tree_of_unscoped_name}
 use Rattle.demangle_leaf_nodes.specs.TreeLeaves.{tag_of_unqualified_name, tree_of_unqualified_name}
 use Rattle.demangle_nodes.specs.TreeNodes.{parts_of_global_ctor_dtor, tree_of_global_ctor_dtor}
 use Rattle.demangle_nodes.specs.TreeNodes.{parts_of_local_name, tree_of_local_name}
-use Rattle.demangle_nodes.specs.TreeNodes.{parts_of_special_name, tree_of_special_name}
 use Rattle.demangle_entries.specs.TreeEntries.{tag_of_prefix, tree_of_prefix}
 use Rattle.demangle_printing.specs.State as kind
 use Rattle.demangle_printing.specs.Scope.{Scope}
@@ -75,17 +69,6 @@ pub prefix_is_itself : (r : Refers) (x : Prefix) →
     of_part (world_of r) (Some (tree_of_prefix x)) ≡ Some (tree_of_prefix x)
 prefix_is_itself r (of_prefix.Unqualified a) = refl
 prefix_is_itself r _ = refl
-
-pub offset_is_itself : (r : Refers) (x : CallOffset) →
-    of_part (world_of r) (Some (tree_of_call_offset x)) ≡ Some (tree_of_call_offset x)
-offset_is_itself r (of_offset.NonVirtual a) = refl
-offset_is_itself r _ = refl
-
-pub special_is_itself : (r : Refers) (x : SpecialName) →
-    of_part (world_of r) (Some (tree_of_special_name x)) ≡ Some (tree_of_special_name x)
-unfolding parts_of_special_name
-special_is_itself r (of_special.VirtualTable a) = refl
-special_is_itself r _ = refl
 
 -- a prefix: what it is told as, and its steps in these events
 pub prefix_line : (r : Refers) (x : Prefix) (sc : Scope Core) → body (world_of r) (line (tree_of_prefix x)) sc

@@ -5,4 +5,3 @@ pub mod Qualified
 pub mod SourceOr
 pub mod Functions
 pub mod Handles
-pub mod Characters

@@ -18,9 +18,9 @@ ghost use Rattle.demangle_print_below.specs.PageOf.{page};
 ghost use Rattle.demangle_print_names.specs.Pieces.{result_shown};
 
 use crate::leaf_names::leaf_item;
-use crate::special::special_name;
 use demangle_print_below::{Below, close};
 use demangle_print_parts::type_handle;
+use demangle_print_special::special_name;
 use demangle_scope::{
     ArgScopeStack, DemangleContext, DemangleWrite, InnerItem, PrintFlag, ScopeItem, scope_push,
 };

@@ -1,5 +1,5 @@
 //! The lines of names: whole names and encodings, names with and without a scope, prefixes, constructors and
-//! destructors, closures, what compilers append; and of special names: tables, thunks, guards, Java's resources.
+//! destructors, closures, and what compilers append.
 #![tactic(auto)]
 
 mod encodings;
@@ -7,10 +7,7 @@ mod globals;
 mod leaf_names;
 mod local;
 mod nested;
-mod offsets;
 mod prefixes;
-mod resources;
-mod special;
 mod suffixes;
 mod unnamed;
 mod unqualified;
@@ -22,10 +19,7 @@ pub use globals::global_ctor_dtor;
 pub use leaf_names::{component_leaf, ctor_dtor_name, leaf_name};
 pub use local::local_name;
 pub use nested::nested_name;
-pub use offsets::call_offset;
 pub use prefixes::{data_member_prefix, prefix, prefix_steps};
-pub use resources::resource_name;
-pub use special::special_name;
 pub use suffixes::{clone_suffix, clone_type_identifier};
 pub use unnamed::{closure_type_name, lambda_sig, unnamed_leaf, unnamed_type_name};
 pub use unqualified::{abi_tag, abi_tags, unqualified_name};

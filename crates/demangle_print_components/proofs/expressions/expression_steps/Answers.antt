@@ -13,7 +13,7 @@ use Rattle.demangle_printing.specs.Print.{body}
 use Rattle.demangle_printing.specs.Lines.{line_steps}
 use Rattle.demangle_meets.proofs.Acts.{meets_done, meets_text}
 use Rattle.demangle_meets.proofs.Parts.{line_parts, meets_part}
-use Rattle.demangle_print_components.proofs.Shaped.{◌also◌, shaped_else}
+use Rattle.demangle_print_shapes.proofs.Shaped.{◌also◌, shaped_else}
 use Rattle.demangle_print_components.proofs.expressions.expression_steps.Goals as goal
 
 pub returns-in-Unary : goal.returns-in-Unary

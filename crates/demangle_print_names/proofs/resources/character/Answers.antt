@@ -1,4 +1,0 @@
-use Rattle.demangle_print_names.proofs.resources.character.Goals as goal
-
-pub returns : goal.returns
-returns g c = rw c.encode_utf8.ensures.value at c.text.ensures

@@ -1,9 +1,0 @@
-use Rattle.demangle_meets.proofs.Acts.{meets_done, meets_text}
-use Rattle.demangle_meets.proofs.Parts.{meets_part}
-use Rattle.demangle_print_names.proofs.special.covariant_thunk.Goals as goal
-
-pub returns : goal.returns
-returns g c =
-    meets_text c.text.ensures (meets_part (c.call_offset.ensures _) (meets_text c.text-2.ensures
-    (meets_part (c.call_offset-2.ensures _) (meets_text c.text-3.ensures
-    (meets_part c.encoding.ensures (meets_text c.text-4.ensures meets_done))))))

@@ -1,7 +1,0 @@
-use Rattle.demangle_meets.proofs.Acts.{meets_done, meets_text}
-use Rattle.demangle_meets.proofs.Parts.{meets_part}
-use Rattle.demangle_print_names.proofs.special.vtt.Goals as goal
-
-pub returns : goal.returns
-returns g c =
-    meets_text c.text.ensures (meets_part c.type_handle.ensures (meets_text c.text-2.ensures meets_done))

@@ -1,0 +1,68 @@
+//! The kinds of expressions whose line is a shape that several have.
+
+ghost use Rattle.std.specs.Prelude.{◌≡◌, true};
+ghost use Rattle.demangle_nodes.specs.TreeNodes.{tree_of_expression};
+ghost use Rattle.demangle_meets.specs.Meets.{Line};
+ghost use Rattle.demangle_scope.specs.ScopeOf.{scope_of};
+ghost use Rattle.demangle_print_below.specs.PageOf.{page};
+ghost use Rattle.demangle_print_shapes.specs.Shaped.{is_shaped};
+
+use demangle_print_below::Below;
+use demangle_print_expressions::{
+    cast, creation, enclosed, enclosed_type, global_creation, global_led, led,
+};
+use demangle_scope::{ArgScopeStack, DemangleContext, DemangleWrite};
+use demangle_tree::Expression;
+
+/// An expression of a shape that several kinds have, by its word. What has a line of its own doesn't come here.
+pub fn shaped_steps<'subs, W: DemangleWrite, B: Below<'subs, W>>(
+    below: B,
+    node: &'subs Expression,
+    scope: Option<ArgScopeStack<'_, 'subs>>,
+    ctx: &mut DemangleContext<'subs, '_, W>,
+)
+    requires can { B.can below }
+    requires shaped { is_shaped node.now ≡ true }
+    ensures { Line (B.at below) (page W.seen ctx.old) (page W.seen ctx.new) (tree_of_expression node.now)
+        (scope_of scope.entry) }
+{
+    match node {
+        Expression::PrefixInc(operand) => led(below, "++", operand, scope, ctx),
+        Expression::PrefixDec(operand) => led(below, "--", operand, scope, ctx),
+        Expression::DynamicCast(ty, operand) => {
+            cast(below, "dynamic_cast<", ty, operand, scope, ctx);
+        }
+        Expression::StaticCast(ty, operand) => cast(below, "static_cast<", ty, operand, scope, ctx),
+        Expression::ConstCast(ty, operand) => cast(below, "const_cast<", ty, operand, scope, ctx),
+        Expression::ReinterpretCast(ty, operand) => {
+            cast(below, "reinterpret_cast<", ty, operand, scope, ctx);
+        }
+        Expression::New(list, ty, init) => {
+            creation(below, "new (", list.as_slice(), ty, init, scope, ctx);
+        }
+        Expression::NewArray(list, ty, init) => {
+            creation(below, "new[] (", list.as_slice(), ty, init, scope, ctx);
+        }
+        Expression::GlobalNew(list, ty, init) => {
+            global_creation(below, "new (", list.as_slice(), ty, init, scope, ctx);
+        }
+        Expression::GlobalNewArray(list, ty, init) => {
+            global_creation(below, "new[] (", list.as_slice(), ty, init, scope, ctx);
+        }
+        Expression::Delete(operand) => led(below, "delete ", operand, scope, ctx),
+        Expression::DeleteArray(operand) => led(below, "delete[] ", operand, scope, ctx),
+        Expression::GlobalDelete(operand) => global_led(below, "delete ", operand, scope, ctx),
+        Expression::GlobalDeleteArray(operand) => {
+            global_led(below, "delete[] ", operand, scope, ctx);
+        }
+        Expression::TypeidType(ty) => enclosed_type(below, "typeid (", ty, scope, ctx),
+        Expression::TypeidExpr(operand) => enclosed(below, "typeid (", operand, scope, ctx),
+        Expression::SizeofType(ty) => enclosed_type(below, "sizeof (", ty, scope, ctx),
+        Expression::SizeofExpr(operand) => enclosed(below, "sizeof (", operand, scope, ctx),
+        Expression::AlignofType(ty) => enclosed_type(below, "alignof (", ty, scope, ctx),
+        Expression::AlignofExpr(operand) => enclosed(below, "alignof (", operand, scope, ctx),
+        Expression::Noexcept(operand) => enclosed(below, "noexcept (", operand, scope, ctx),
+        Expression::Throw(operand) => led(below, "throw ", operand, scope, ctx),
+        _ => {}
+    }
+}

@@ -1,0 +1,8 @@
+use Rattle.demangle_meets.proofs.Acts.{meets_done, meets_text}
+use Rattle.demangle_meets.proofs.Parts.{meets_part}
+use Rattle.demangle_print_special.proofs.special.construction_vtable.Goals as goal
+
+pub returns : goal.returns
+returns g c =
+    meets_text c.text.ensures (meets_part c.type_handle.ensures (meets_text c.text-2.ensures
+    (meets_part c.type_handle-2.ensures meets_done)))

@@ -1,0 +1,9 @@
+use Rattle.demangle_meets.proofs.Acts.{meets_done, meets_text}
+use Rattle.demangle_meets.proofs.Lines.{meets_said}
+use Rattle.demangle_meets.proofs.Parts.{meets_part}
+use Rattle.demangle_print_special.proofs.special.temporary.Goals as goal
+
+pub returns : goal.returns
+returns g c =
+    meets_text c.text.ensures (meets_said c.unsigned.ensures (meets_text c.text-2.ensures
+    (meets_part c.name.ensures meets_done)))
