@@ -8,8 +8,8 @@ ghost use Rattle.demangle_nodes.specs.TreeNodes.{tree_of_template_arg, tree_of_t
 use crate::demangle::Demangle;
 use crate::printer::begin;
 use demangle_print_below::Below;
-use demangle_print_expressions::{function_param, template_template_param};
 use demangle_print_parts::{template_args, template_param, template_template_param_handle};
+use demangle_print_primaries::{function_param, template_template_param};
 use demangle_scope::{ArgScopeStack, DemangleContext, DemangleError, DemangleWrite};
 use demangle_tree::{
     FunctionParam, TemplateArg, TemplateArgs, TemplateParam, TemplateTemplateParam,

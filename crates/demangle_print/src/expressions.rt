@@ -11,11 +11,12 @@ ghost use Rattle.demangle_entries.specs.TreeEntries.{tree_of_unresolved_type};
 use crate::demangle::Demangle;
 use crate::printer::begin;
 use demangle_print_below::Below;
-use demangle_print_expressions::{
-    base_unresolved_name, destructor_name, expr_primary, fold_expr, initializer, member_name,
-    simple_id, subobject_expr, unresolved_name, unresolved_qualifier_level, unresolved_type,
-};
+use demangle_print_expressions::{fold_expr, initializer, member_name, subobject_expr};
 use demangle_print_parts::unresolved_type_handle;
+use demangle_print_primaries::{
+    base_unresolved_name, destructor_name, expr_primary, simple_id, unresolved_name,
+    unresolved_qualifier_level, unresolved_type,
+};
 use demangle_scope::{ArgScopeStack, DemangleContext, DemangleError, DemangleWrite};
 use demangle_tree::{
     BaseUnresolvedName, DestructorName, ExprPrimary, Expression, FoldExpr, Initializer, MemberName,

@@ -9,9 +9,9 @@ ghost use Rattle.demangle_print.specs.MayPrint.{DoesNamed, DoesPart};
 use crate::tied::{Named, Part, Tied};
 use demangle_print_below::Depth;
 use demangle_print_components::{expression_steps, substitutable_steps};
-use demangle_print_expressions::template_arg_steps;
 use demangle_print_inner::inner_steps;
 use demangle_print_names::{encoding_steps, mangled_name_steps, name_steps};
+use demangle_print_primaries::template_arg_steps;
 use demangle_scope::{ArgScopeStack, DemangleContext, DemangleWrite};
 
 /// The line of a name.

@@ -7,8 +7,8 @@ ghost use Rattle.demangle_print_below.specs.PageOf.{page};
 
 use crate::expressions::expression_steps;
 use demangle_print_below::Below;
-use demangle_print_expressions::{template_template_param_steps, unresolved_type_steps};
 use demangle_print_names::{prefix_steps, unscoped_template_name_steps};
+use demangle_print_primaries::{template_template_param_steps, unresolved_type_steps};
 use demangle_print_types::type_node_steps;
 use demangle_scope::{ArgScopeStack, DemangleContext, DemangleWrite};
 use demangle_tree::Substitutable;

@@ -8,11 +8,14 @@ ghost use Rattle.demangle_print_below.specs.PageOf.{page};
 use demangle_print_below::Below;
 use demangle_print_expressions::{
     binary, braced_init_list, call, conversion_braced, conversion_many, conversion_one,
-    deref_member, expr_primary, fold_expr, function_param, member, pack_expansion,
-    pointer_to_member, sizeof_captured_pack, sizeof_function_pack, sizeof_template_pack,
-    subobject_expr, ternary, unary, unresolved_name,
+    deref_member, fold_expr, member, pack_expansion, pointer_to_member, subobject_expr, ternary,
+    unary,
 };
 use demangle_print_parts::template_param;
+use demangle_print_primaries::{
+    expr_primary, function_param, sizeof_captured_pack, sizeof_function_pack, sizeof_template_pack,
+    unresolved_name,
+};
 use demangle_print_shapes::shaped_steps;
 use demangle_scope::{ArgScopeStack, DemangleContext, DemangleWrite};
 use demangle_tree::Expression;

@@ -1,4 +1,1 @@
-pub mod Made
 pub mod Shapes
-pub mod Literals
-pub mod Levels

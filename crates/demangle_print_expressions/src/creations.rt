@@ -8,7 +8,7 @@ ghost use Rattle.demangle_meets.specs.Meets.{Meets, Prints};
 ghost use Rattle.demangle_meets.specs.Place.{world_of};
 ghost use Rattle.demangle_scope.specs.ScopeOf.{scope_of};
 ghost use Rattle.demangle_print_below.specs.PageOf.{page};
-ghost use Rattle.demangle_print_expressions.specs.Made.{expressions};
+ghost use Rattle.demangle_print_primaries.specs.Made.{expressions};
 ghost use Rattle.demangle_print_expressions.specs.Shapes.{creation, led};
 
 use crate::calls::initializer;

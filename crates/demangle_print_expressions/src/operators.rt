@@ -11,7 +11,7 @@ ghost use Rattle.demangle_meets.specs.Meets.{Line};
 ghost use Rattle.demangle_meets.specs.Place.{Refers, world_of};
 ghost use Rattle.demangle_scope.specs.ScopeOf.{scope_of};
 ghost use Rattle.demangle_print_below.specs.PageOf.{page};
-ghost use Rattle.demangle_print_expressions.specs.Made.{made};
+ghost use Rattle.demangle_print_primaries.specs.Made.{made};
 
 use crate::shapes::operand;
 use demangle_print_below::Below;

@@ -3,7 +3,7 @@ use Rattle.demangle_printing.specs.Print.{body}
 use Rattle.demangle_printing.specs.Lines.{line_steps}
 use Rattle.demangle_meets.proofs.Acts.{meets_done, meets_text}
 use Rattle.demangle_scope.specs.ScopeOf.{scope_of}
-use Rattle.demangle_print_expressions.proofs.Lists.{meets_list}
+use Rattle.demangle_print_primaries.proofs.Lists.{meets_list}
 use Rattle.demangle_print_expressions.proofs.calls.braced_init_list.Goals as goal
 
 pub returns : goal.returns

@@ -5,7 +5,7 @@ use Rattle.demangle_printing.specs.Lines.{line_steps}
 use Rattle.demangle_meets.proofs.Acts.{meets_done, meets_text}
 use Rattle.demangle_meets.proofs.Parts.{prints_deep, prints_node}
 use Rattle.demangle_scope.specs.ScopeOf.{scope_of}
-use Rattle.demangle_print_expressions.proofs.Lists.{meets_list}
+use Rattle.demangle_print_primaries.proofs.Lists.{meets_list}
 use Rattle.demangle_print_expressions.proofs.calls.initializer.Goals as goal
 
 pub returns-in_default : goal.returns-in_default

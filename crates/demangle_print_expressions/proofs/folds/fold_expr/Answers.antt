@@ -6,7 +6,7 @@ use Rattle.demangle_printing.specs.Print.{body}
 use Rattle.demangle_printing.specs.Lines.{line_steps}
 use Rattle.demangle_meets.proofs.Acts.{meets_block, meets_done, meets_text}
 use Rattle.demangle_meets.proofs.Parts.{meets_part, prints_deep, prints_node, prints_parts}
-use Rattle.demangle_print_expressions.proofs.Itself.{fold_is_itself}
+use Rattle.demangle_print_primaries.proofs.Itself.{fold_is_itself}
 use Rattle.demangle_print_expressions.proofs.folds.fold_expr.Goals as goal
 
 pub returns-in_default : goal.returns-in_default

@@ -6,7 +6,7 @@ use Rattle.demangle_printing.specs.Print.{body}
 use Rattle.demangle_printing.specs.Lines.{line_steps}
 use Rattle.demangle_meets.proofs.Acts.{meets_done, meets_text}
 use Rattle.demangle_meets.proofs.Parts.{meets_part, prints_deep, prints_node}
-use Rattle.demangle_print_expressions.proofs.Chosen.{meets_else, meets_if}
+use Rattle.demangle_print_primaries.proofs.Chosen.{meets_else, meets_if}
 use Rattle.demangle_print_expressions.proofs.members.member_name.Goals as goal
 
 pub returns-in_default : goal.returns-in_default

@@ -1,6 +1,6 @@
 use Rattle.std.proofs.Common.{refl}
 use Rattle.demangle_vocab.specs.Operators.{number_of_operator}
-use Rattle.demangle_print_expressions.proofs.Words.{other_operator}
+use Rattle.demangle_print_primaries.proofs.Words.{other_operator}
 use Rattle.demangle_print_expressions.proofs.operators.is_operator.Goals as goal
 
 pub returns-in-Simple : goal.returns-in-Simple

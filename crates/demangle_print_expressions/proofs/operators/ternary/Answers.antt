@@ -2,7 +2,7 @@ use Rattle.demangle_printing.specs.Print.{body}
 use Rattle.demangle_printing.specs.Lines.{line_steps}
 use Rattle.demangle_meets.proofs.Acts.{meets_block, meets_done, meets_text}
 use Rattle.demangle_meets.proofs.Parts.{meets_part}
-use Rattle.demangle_print_expressions.proofs.Chosen.{meets_else, meets_if}
+use Rattle.demangle_print_primaries.proofs.Chosen.{meets_else, meets_if}
 use Rattle.demangle_print_expressions.proofs.operators.ternary.Goals as goal
 
 pub returns-then-is_operator : goal.returns-then-is_operator

@@ -2,7 +2,7 @@ use Rattle.std.proofs.Common.{ap, sym, ◌∙◌}
 use Rattle.demangle_nodes.specs.TreeNodes.{tag_of_expression, tree_of_expression}
 use Rattle.demangle_printing.specs.Reader.{is_bare_node}
 use Rattle.demangle_meets.specs.Place.{world_of}
-use Rattle.demangle_print_expressions.proofs.Itself.{bare_primary, not_bare, seen_expression}
+use Rattle.demangle_print_primaries.proofs.Itself.{bare_primary, not_bare, seen_expression}
 use Rattle.demangle_print_expressions.proofs.shapes.is_bare.Goals as goal
 
 pub returns-in-FunctionParam : goal.returns-in-FunctionParam

@@ -1,7 +1,7 @@
 use Rattle.std.proofs.Common.{ap, sym, ◌∙◌}
 use Rattle.demangle_nodes.specs.TreeNodes.{tag_of_expr_primary}
 use Rattle.demangle_printing.specs.Reader.{is_external}
-use Rattle.demangle_print_expressions.proofs.Itself.{seen_primary}
+use Rattle.demangle_print_primaries.proofs.Itself.{seen_primary}
 use Rattle.demangle_print_expressions.proofs.shapes.is_external.Goals as goal
 
 pub returns-in-External : goal.returns-in-External
