@@ -7,7 +7,7 @@ use Rattle.demangle_meets.specs.Page.{Page}
 use Rattle.demangle_meets.specs.Place.{Place}
 use Rattle.demangle_meets.specs.Calls.{Stops}
 use Rattle.demangle_meets.proofs.Parts.{prints_deep, prints_same, inner_deep}
-use Rattle.demangle_print_expressions.proofs.Itself.{expression_is_itself, template_arg_is_itself}
+use Rattle.demangle_print_primaries.proofs.Itself.{expression_is_itself, template_arg_is_itself}
 use Rattle.demangle_print.specs.declared.tied.Named.{Named}
 use Rattle.demangle_print.specs.declared.tied.Named.TheVariants as of_named
 use Rattle.demangle_print.specs.declared.tied.Part.{Part}

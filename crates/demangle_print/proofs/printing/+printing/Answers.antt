@@ -1,6 +1,6 @@
 use Rattle.std.proofs.Common.{sym, ◌∙◌}
 use Rattle.demangle_meets.proofs.Parts.{prints_line, prints_same, inner_behind}
-use Rattle.demangle_print_expressions.proofs.Itself.{expression_is_itself, template_arg_is_itself}
+use Rattle.demangle_print_primaries.proofs.Itself.{expression_is_itself, template_arg_is_itself}
 use Rattle.demangle_print.proofs.Held.{encoding_is_itself, held_is_itself, held_part, mangled_name_is_itself}
 use Rattle.demangle_print.proofs.Held.{name_is_itself}
 use Rattle.demangle_print.proofs.Turns.{named_at, named_deep, part_at, part_deep}
