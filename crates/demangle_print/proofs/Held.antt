@@ -14,7 +14,7 @@ use Rattle.demangle_entries.specs.TreeEntries.{tree_of_substitutable}
 use Rattle.demangle_printing.specs.Rules.{of_part}
 use Rattle.demangle_meets.specs.Place.{Refers, world_of}
 use Rattle.demangle_print_types.proofs.Itself.{type_is_itself}
-use Rattle.demangle_print_names.proofs.Itself.{prefix_is_itself}
+use Rattle.demangle_print_unqualified.proofs.Itself.{prefix_is_itself}
 use Rattle.demangle_print_primaries.proofs.Itself.{expression_is_itself, unresolved_is_itself}
 use Rattle.demangle_print_components.specs.Held.{held_in}
 

@@ -5,7 +5,7 @@ ghost use Rattle.demangle_leaf_nodes.specs.TreeLeaves.{tree_of_well_known_compon
 
 use crate::demangle::DemangleAsLeaf;
 use crate::printer::begin;
-use demangle_print_names::{component_leaf, leaf_name, unnamed_leaf};
+use demangle_print_unqualified::{component_leaf, leaf_name, unnamed_leaf};
 use demangle_scope::{DemangleContext, DemangleError, DemangleWrite};
 use demangle_tree::{LeafName, UnnamedTypeName};
 use demangle_vocab::WellKnownComponent;

@@ -13,10 +13,11 @@ use crate::demangle::Demangle;
 use crate::printer::begin;
 use demangle_print_below::{Below, non_substitution};
 use demangle_print_names::{
-    clone_suffix, clone_type_identifier, data_member_prefix, global_ctor_dtor, local_name,
-    nested_name, prefix, unscoped_name, unscoped_template_name,
+    data_member_prefix, global_ctor_dtor, local_name, nested_name, prefix, unscoped_name,
+    unscoped_template_name,
 };
 use demangle_print_parts::{prefix_handle, unscoped_template_name_handle};
+use demangle_print_unqualified::{clone_suffix, clone_type_identifier};
 use demangle_scope::{ArgScopeStack, DemangleContext, DemangleError, DemangleWrite};
 use demangle_tree::{
     CloneSuffix, CloneTypeIdentifier, DataMemberPrefix, GlobalCtorDtor, LocalName, MangledName,

@@ -7,11 +7,11 @@ ghost use Rattle.demangle_leaf_nodes.specs.TreeLeaves.{tree_of_unnamed_type_name
 
 use crate::demangle::Demangle;
 use crate::printer::begin;
-use demangle_print_names::{
+use demangle_print_parts::{identifier, operator_name, source_name};
+use demangle_print_unqualified::{
     abi_tag, abi_tags, closure_type_name, ctor_dtor_name, lambda_sig, unnamed_type_name,
     unqualified_name,
 };
-use demangle_print_parts::{identifier, operator_name, source_name};
 use demangle_scope::{ArgScopeStack, DemangleContext, DemangleError, DemangleWrite};
 use demangle_tree::{
     AbiTag, AbiTags, ClosureTypeName, CtorDtorName, Identifier, LambdaSig, OperatorName,

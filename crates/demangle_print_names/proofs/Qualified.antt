@@ -13,7 +13,7 @@ use Rattle.demangle_meets.specs.Place.{Place, world_of}
 use Rattle.demangle_meets.specs.Meets.{Prints, Remains}
 use Rattle.demangle_meets.proofs.Acts.{meets_choose_off, meets_choose_on, meets_done}
 use Rattle.demangle_meets.proofs.Parts.{meets_part}
-use Rattle.demangle_print_names.specs.Pieces.{qualifiers_act}
+use Rattle.demangle_print_unqualified.specs.Pieces.{qualifiers_act}
 
 module _ (p : Place) (x : Core) (sc : Scope Core) (k : Act Core) where
   pub not_qualified : {a : Page} → any_set (world_of p.refers) (parts (world_of p.refers) x) ≡ false →

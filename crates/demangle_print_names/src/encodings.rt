@@ -15,12 +15,12 @@ ghost use Rattle.demangle_meets.specs.Meets.{Line, Meets};
 ghost use Rattle.demangle_meets.specs.Place.{world_of};
 ghost use Rattle.demangle_scope.specs.ScopeOf.{scope_of};
 ghost use Rattle.demangle_print_below.specs.PageOf.{page};
-ghost use Rattle.demangle_print_names.specs.Pieces.{result_shown};
+ghost use Rattle.demangle_print_unqualified.specs.Pieces.{result_shown};
 
-use crate::leaf_names::leaf_item;
 use demangle_print_below::{Below, close};
 use demangle_print_parts::type_handle;
 use demangle_print_special::special_name;
+use demangle_print_unqualified::leaf_item;
 use demangle_scope::{
     ArgScopeStack, DemangleContext, DemangleWrite, InnerItem, PrintFlag, ScopeItem, scope_push,
 };

@@ -18,11 +18,11 @@ ghost use Rattle.demangle_meets.specs.Place.{world_of};
 ghost use Rattle.demangle_scope.specs.ScopeOf.{scope_of};
 ghost use Rattle.demangle_print_below.specs.PageOf.{page};
 ghost use Rattle.demangle_print_parts.specs.Pieces.{row, when_there};
-ghost use Rattle.demangle_print_names.specs.Pieces.{qualifiers_act};
+ghost use Rattle.demangle_print_unqualified.specs.Pieces.{qualifiers_act};
 
-use crate::unqualified::unqualified_name;
 use demangle_print_below::Below;
 use demangle_print_parts::{cv_qualifiers, is_qualified, prefix_handle, reference_mark};
+use demangle_print_unqualified::unqualified_name;
 use demangle_scope::{ArgScopeStack, DemangleContext, DemangleNodeType, DemangleWrite, PrintFlag};
 use demangle_tree::{CvQualifiers, NestedName, PrefixHandle, UnqualifiedName};
 use demangle_vocab::RefQualifier;

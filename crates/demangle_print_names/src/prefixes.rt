@@ -13,11 +13,11 @@ ghost use Rattle.demangle_meets.specs.Place.{world_of};
 ghost use Rattle.demangle_scope.specs.ScopeOf.{scope_of};
 ghost use Rattle.demangle_print_below.specs.PageOf.{page};
 ghost use Rattle.demangle_print_names.specs.Opens.{Opens};
-ghost use Rattle.demangle_print_names.specs.Pieces.{in_fence};
+ghost use Rattle.demangle_print_unqualified.specs.Pieces.{in_fence};
 
-use crate::unqualified::unqualified_name;
 use demangle_print_below::Below;
 use demangle_print_parts::{decltype, prefix_handle, source_name, template_args, template_param};
+use demangle_print_unqualified::unqualified_name;
 use demangle_scope::{ArgScopeStack, DemangleContext, DemangleNodeType, DemangleWrite, PrintFlag};
 use demangle_tree::{DataMemberPrefix, Prefix};
 

@@ -8,9 +8,9 @@ ghost use Rattle.demangle_print_below.specs.PageOf.{page};
 
 use crate::local::local_name;
 use crate::nested::nested_name;
-use crate::unqualified::unqualified_name;
 use demangle_print_below::Below;
 use demangle_print_parts::{template_args, unscoped_template_name_handle};
+use demangle_print_unqualified::unqualified_name;
 use demangle_scope::{ArgScopeStack, DemangleContext, DemangleWrite, ScopeItem, scope_push};
 use demangle_tree::{Name, UnscopedName, UnscopedTemplateName};
 

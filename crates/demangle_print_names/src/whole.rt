@@ -6,9 +6,9 @@ ghost use Rattle.demangle_scope.specs.ScopeOf.{scope_of};
 ghost use Rattle.demangle_print_below.specs.PageOf.{page};
 
 use crate::globals::global_ctor_dtor;
-use crate::suffixes::shown_suffixes;
 use demangle_print_below::Below;
 use demangle_print_parts::type_handle;
+use demangle_print_unqualified::shown_suffixes;
 use demangle_scope::{ArgScopeStack, DemangleContext, DemangleWrite};
 use demangle_tree::MangledName;
 

@@ -8,7 +8,7 @@ use Rattle.demangle_meets.specs.Place.{world_of}
 use Rattle.demangle_meets.proofs.Acts.{meets_block, meets_choose_off, meets_choose_on, meets_done, meets_text}
 use Rattle.demangle_meets.proofs.Parts.{meets_at}
 use Rattle.demangle_scope.specs.ScopeOf.{scope_of}
-use Rattle.demangle_print_names.specs.Pieces.{result_shown}
+use Rattle.demangle_print_unqualified.specs.Pieces.{result_shown}
 use Rattle.demangle_print_names.proofs.Functions.{function_tree}
 use Rattle.demangle_print_names.proofs.encodings.function_result.Goals as goal
 

@@ -2,7 +2,7 @@ use Rattle.std.proofs.Common.{None, Some}
 use Rattle.demangle_nodes.specs.TreeNodes.{tree_of_encoding, tree_of_name, tree_of_template_args}
 use Rattle.demangle_scope.specs.ScopeOf.{scope_of}
 use Rattle.demangle_print_names.proofs.Functions.{function_name}
-use Rattle.demangle_print_names.proofs.Scopes.{with_its_args}
+use Rattle.demangle_print_unqualified.proofs.Scopes.{with_its_args}
 use Rattle.demangle_print_names.proofs.encodings.in_leaf_scope.Goals as goal
 
 pub returns-in-None : goal.returns-in-None

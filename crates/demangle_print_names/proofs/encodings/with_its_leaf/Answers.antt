@@ -2,7 +2,7 @@ use Rattle.std.proofs.Common.{None, Some}
 use Rattle.demangle_leaf_nodes.specs.TreeLeaves.{tree_of_leaf_name}
 use Rattle.demangle_nodes.specs.TreeNodes.{tree_of_encoding, tree_of_name}
 use Rattle.demangle_scope.specs.ScopeOf.{scope_of}
-use Rattle.demangle_print_names.proofs.Scopes.{with_leaf_found}
+use Rattle.demangle_print_unqualified.proofs.Scopes.{with_leaf_found}
 use Rattle.demangle_print_names.proofs.encodings.with_its_leaf.Goals as goal
 
 pub returns-in-None : goal.returns-in-None

@@ -8,7 +8,7 @@ use Rattle.demangle_printing.specs.Rules.{line_of}
 use Rattle.demangle_meets.proofs.Parts.{meets_at, prints_deep, prints_node, prints_parts}
 use Rattle.demangle_meets.specs.Place.{world_of}
 use Rattle.demangle_scope.specs.ScopeOf.{scope_of}
-use Rattle.demangle_print_names.proofs.Itself.{global_is_itself}
+use Rattle.demangle_print_unqualified.proofs.Itself.{global_is_itself}
 use Rattle.demangle_print_names.proofs.globals.global_ctor_dtor.Goals as goal
 
 pub returns-in_default : goal.returns-in_default

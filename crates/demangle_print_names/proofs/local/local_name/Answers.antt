@@ -14,7 +14,7 @@ use Rattle.demangle_meets.proofs.Parts.{meets_at, prints_deep, prints_node, prin
 use Rattle.demangle_meets.specs.Place.{world_of}
 use Rattle.demangle_scope.specs.ScopeOf.{scope_of}
 use Rattle.demangle_print_parts.specs.Pieces.{row}
-use Rattle.demangle_print_names.proofs.Itself.{local_is_itself}
+use Rattle.demangle_print_unqualified.proofs.Itself.{local_is_itself}
 use Rattle.demangle_print_names.proofs.local.local_name.Goals as goal
 
 pub returns-in_default : goal.returns-in_default

@@ -4,7 +4,7 @@ use Rattle.demangle_printing.specs.Lines.{line_steps}
 use Rattle.demangle_printing.specs.Print.{body}
 use Rattle.demangle_meets.proofs.Acts.{meets_block}
 use Rattle.demangle_meets.proofs.Parts.{prints_at, prints_deep, prints_node}
-use Rattle.demangle_print_names.proofs.Itself.{nested_is_itself}
+use Rattle.demangle_print_unqualified.proofs.Itself.{nested_is_itself}
 use Rattle.demangle_print_names.proofs.nested.nested_name.Goals as goal
 
 pub returns-in_default : goal.returns-in_default

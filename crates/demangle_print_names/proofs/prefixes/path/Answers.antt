@@ -7,7 +7,7 @@ use Rattle.demangle_meets.proofs.Acts.{meets_done, meets_set, meets_text}
 use Rattle.demangle_meets.proofs.Parts.{meets_at, meets_part}
 use Rattle.demangle_meets.specs.Place.{world_of}
 use Rattle.demangle_scope.specs.ScopeOf.{scope_of}
-use Rattle.demangle_print_names.specs.Pieces.{in_fence}
+use Rattle.demangle_print_unqualified.specs.Pieces.{in_fence}
 use Rattle.demangle_print_names.proofs.prefixes.path.Goals as goal
 
 pub returns-in-Unqualified : goal.returns-in-Unqualified

@@ -1,5 +1,5 @@
 use Rattle.demangle_meets.proofs.Parts.{prints_deep, prints_line}
-use Rattle.demangle_print_names.proofs.Itself.{prefix_is_itself}
+use Rattle.demangle_print_unqualified.proofs.Itself.{prefix_is_itself}
 use Rattle.demangle_print_names.proofs.prefixes.prefix.Goals as goal
 
 pub returns-in_default : goal.returns-in_default

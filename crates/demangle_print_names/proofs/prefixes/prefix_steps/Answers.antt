@@ -6,8 +6,8 @@ use Rattle.demangle_meets.proofs.Around.{meets_fence}
 use Rattle.demangle_meets.proofs.Events.{meets_event}
 use Rattle.demangle_meets.proofs.Parts.{meets_at}
 use Rattle.demangle_scope.specs.ScopeOf.{scope_of}
-use Rattle.demangle_print_names.specs.Pieces.{in_fence}
-use Rattle.demangle_print_names.proofs.Itself.{prefix_line}
+use Rattle.demangle_print_unqualified.specs.Pieces.{in_fence}
+use Rattle.demangle_print_unqualified.proofs.Itself.{prefix_line}
 use Rattle.demangle_print_names.proofs.prefixes.prefix_steps.Goals as goal
 
 pub returns : goal.returns

@@ -4,7 +4,7 @@ use Rattle.demangle_printing.specs.Lines.{line_steps}
 use Rattle.demangle_printing.specs.Print.{body}
 use Rattle.demangle_meets.proofs.Acts.{meets_done, meets_text}
 use Rattle.demangle_meets.proofs.Parts.{meets_part, prints_at, prints_deep, prints_node}
-use Rattle.demangle_print_names.proofs.Itself.{unscoped_is_itself}
+use Rattle.demangle_print_unqualified.proofs.Itself.{unscoped_is_itself}
 use Rattle.demangle_print_names.proofs.unscoped.unscoped_name.Goals as goal
 
 pub returns-in_default : goal.returns-in_default

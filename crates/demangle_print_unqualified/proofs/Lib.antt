@@ -1,0 +1,4 @@
+pub mod Itself
+pub mod Scopes
+pub mod Words
+pub mod SourceOr
