@@ -1,4 +1,5 @@
-//! The line of an expression of a kind whose line is a shape that several have, its word aside.
+//! The lines of expressions of the kinds that share a shape: what stands behind a word, what stands in parentheses,
+//! casts and creations.
 #![tactic(auto)]
 
 mod expressions;
