@@ -71,7 +71,7 @@ shaped_steps-requires g c κs = (
   (refl, _),
   (
     c.requires.can,
-    rest_of primary_kinds (shaped_kinds) c.args.node.now c.requires.others (
+    rest_of primary_kinds shaped_kinds c.args.node.now c.requires.others (
         c.in_default.not-SizeofTemplatePack also c.in_default.not-SizeofFunctionPack also
         c.in_default.not-SizeofCapturedTemplatePack also c.in_default.not-TemplateParam also
         c.in_default.not-FunctionParam also c.in_default.not-Rethrow also c.in_default.not-UnresolvedName also

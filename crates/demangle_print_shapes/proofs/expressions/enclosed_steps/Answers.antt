@@ -71,7 +71,7 @@ cast_or_creation_steps-requires g c κs = (
   (refl, _),
   (
     c.requires.can,
-    rest_of enclosed_kinds (made_kinds) c.args.node.now c.requires.shaped (
+    rest_of enclosed_kinds made_kinds c.args.node.now c.requires.shaped (
         c.in_default.not-TypeidType also c.in_default.not-TypeidExpr also c.in_default.not-SizeofType also
         c.in_default.not-SizeofExpr also c.in_default.not-AlignofType also c.in_default.not-AlignofExpr also
         c.in_default.not-Noexcept also tt
