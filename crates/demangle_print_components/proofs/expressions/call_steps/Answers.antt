@@ -7,7 +7,7 @@ use Rattle.demangle_printing.specs.Print.{body}
 use Rattle.demangle_printing.specs.Lines.{line_steps}
 use Rattle.demangle_meets.proofs.Parts.{line_parts}
 use Rattle.demangle_print_shapes.specs.Kinds.{shaped_kinds}
-use Rattle.demangle_print_shapes.proofs.Kinds.{◌also◌, rest_of}
+use Rattle.demangle_print_shapes.proofs.Rest.{◌also◌, rest_of}
 use Rattle.demangle_print_components.specs.Kinds.{call_kinds, primary_kinds}
 use Rattle.demangle_print_components.proofs.expressions.call_steps.Goals as goal
 

@@ -8,9 +8,9 @@ use Rattle.demangle_printing.specs.Lines.{line_steps}
 use Rattle.demangle_meets.proofs.Acts.{meets_done}
 use Rattle.demangle_meets.proofs.Parts.{line_parts, meets_part}
 use Rattle.demangle_print_shapes.specs.Kinds.{shaped_kinds}
-use Rattle.demangle_print_shapes.proofs.Kinds.{◌also◌, rest_of}
+use Rattle.demangle_print_shapes.proofs.Rest.{◌also◌, rest_of}
 use Rattle.demangle_print_components.specs.Kinds.{call_kinds, primary_kinds}
-use Rattle.demangle_print_components.proofs.Kinds.{every_kind, operator_kinds}
+use Rattle.demangle_print_components.proofs.Every.{every_kind, operator_kinds}
 use Rattle.demangle_print_components.proofs.expressions.expression_steps.Goals as goal
 
 pub returns-in-Unary : goal.returns-in-Unary

@@ -9,7 +9,7 @@ use Rattle.demangle_printing.specs.Lines.{line_steps}
 use Rattle.demangle_meets.proofs.Acts.{meets_done, meets_text}
 use Rattle.demangle_meets.proofs.Parts.{line_parts, meets_part}
 use Rattle.demangle_print_shapes.specs.Kinds.{shaped_kinds}
-use Rattle.demangle_print_shapes.proofs.Kinds.{◌also◌, rest_of}
+use Rattle.demangle_print_shapes.proofs.Rest.{◌also◌, rest_of}
 use Rattle.demangle_print_components.specs.Kinds.{primary_kinds}
 use Rattle.demangle_print_components.proofs.expressions.primary_steps.Goals as goal
 

@@ -7,7 +7,7 @@ use Rattle.demangle_printing.specs.Print.{body}
 use Rattle.demangle_printing.specs.Lines.{line_steps}
 use Rattle.demangle_meets.proofs.Parts.{line_parts}
 use Rattle.demangle_print_shapes.specs.Kinds.{made_kinds}
-use Rattle.demangle_print_shapes.proofs.Kinds.{◌also◌, rest_of}
+use Rattle.demangle_print_shapes.proofs.Rest.{◌also◌, rest_of}
 use Rattle.demangle_print_shapes.proofs.expressions.cast_or_creation_steps.Goals as goal
 
 pub returns-in-DynamicCast : goal.returns-in-DynamicCast
