@@ -64,7 +64,8 @@ call_steps-requires g c κs = (
   (refl, _),
   (
     c.requires,
-    rest_of operator_kinds (call_kinds ++ (primary_kinds ++ shaped_kinds)) c.args.node.now (every_kind c.args.node.now) (
+    rest_of operator_kinds (call_kinds ++ (primary_kinds ++ shaped_kinds)) c.args.node.now
+        (every_kind c.args.node.now) (
         c.in_default.not-Unary also c.in_default.not-Binary also c.in_default.not-Ternary also
         c.in_default.not-Fold also c.in_default.not-Member also c.in_default.not-DerefMember also
         c.in_default.not-PointerToMember also c.in_default.not-Subobject also tt
