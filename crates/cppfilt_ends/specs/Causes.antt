@@ -27,3 +27,8 @@ SinkCause before now (Err fault.OutOfMemory) = now ≡ before
 abbrev pub TakenCount : ℕ → ℕ → Result ℕ Failed → Type 0
 TakenCount before now (Ok n) = now ≡ min (before + n) (2 ^ 64 - 1)
 TakenCount before now (Err e) = now ≡ before
+
+-- how many bytes a read gave: none where it failed
+abbrev pub given_by : Result ℕ Failed → ℕ
+given_by (Ok n) = n
+given_by (Err e) = 0

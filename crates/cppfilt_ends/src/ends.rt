@@ -3,7 +3,7 @@
 ghost use Rattle.std.specs.Prelude.{◌≡◌, ℕ, ◌≤◌, ◌<◌, List, Option, length, IfOk};
 ghost use Rattle.std.specs.Io.{ReadsAtMost};
 ghost use Rattle.std.specs.Io.KnownBytes.{ReadConsumes, WriteAppends};
-ghost use Rattle.cppfilt_ends.specs.Causes.{SourceCause, SinkCause, TakenCount};
+ghost use Rattle.cppfilt_ends.specs.Causes.{SourceCause, SinkCause, TakenCount, given_by};
 
 use demangle_context::SinkFault;
 
@@ -22,12 +22,16 @@ pub trait Source {
     /// How many bytes were taken, which every source tells. The count stops at its greatest value.
     ghost taken: { Self → ℕ };
 
+    /// How many bytes the last read gave, which every source tells: none where it failed, and before the first.
+    ghost last: { Self → ℕ };
+
     /// Moves the first bytes that are left into `buf` and returns how many: none, for a buffer with room, only where
     /// nothing is left. `Failed` comes only where the source's count of faults rose, and then nothing was taken.
     fn read(&mut self, buf: &mut [u8]) -> Result<usize, Failed>
         ensures bound { ReadsAtMost result buf.new }
         ensures bytes { ReadConsumes (left self.old) (left self.new) result buf.new }
         ensures count { TakenCount (taken self.old) (taken self.new) result }
+        ensures last { last self.new ≡ given_by result }
         ensures cause { SourceCause (faults self.old) (faults self.new) result };
 }
 
@@ -56,6 +60,7 @@ pub fn read_front<R: Source>(input: &mut R, block: &mut [u8], most: usize) -> Re
     ensures kept { length block.new ≡ length block.old }
     ensures bytes { ReadConsumes (R.left input.old) (R.left input.new) result block.new }
     ensures count { TakenCount (R.taken input.old) (R.taken input.new) result }
+    ensures last { R.last input.new ≡ given_by result }
     ensures cause { SourceCause (R.faults input.old) (R.faults input.new) result }
 {
     input.read(&mut block[..most])

@@ -4,7 +4,7 @@ ghost use Rattle.std.specs.Prelude.{◌≡◌, ◌+◌, ◌-◌, ◌^◌, ◌<�
 ghost use Rattle.std.specs.Prelude.{length, min};
 ghost use Rattle.std.specs.Io.{ReadsAtMost};
 ghost use Rattle.std.specs.Io.KnownBytes.{ReadConsumes, WriteAppends};
-ghost use Rattle.cppfilt_ends.specs.Causes.{SinkCause, SourceCause, TakenCount};
+ghost use Rattle.cppfilt_ends.specs.Causes.{SinkCause, SourceCause, TakenCount, given_by};
 
 use crate::ends::{Failed, Sink, Source, read_front};
 use crate::memory::VecSource;
@@ -19,6 +19,7 @@ pub struct FaultySource {
     fail_at: Vec<u64>,
     calls: u64,
     faults: u64,
+    last: usize,
     ghost moves: { 0 < step },
 }
 
@@ -31,6 +32,7 @@ impl FaultySource {
         requires { 0 < step }
         ensures left { ⟦<FaultySource as Source>⟧.left result ≡ Some bytes.items }
         ensures taken { ⟦<FaultySource as Source>⟧.taken result ≡ 0 }
+        ensures last { ⟦<FaultySource as Source>⟧.last result ≡ 0 }
         ensures faults { ⟦<FaultySource as Source>⟧.faults result ≡ 0 }
         ensures calls { source_calls result ≡ 0 }
         ensures step { source_step result ≡ step }
@@ -42,6 +44,7 @@ impl FaultySource {
             fail_at,
             calls: 0,
             faults: 0,
+            last: 0,
         }
     }
 }
@@ -55,6 +58,8 @@ impl Source for FaultySource {
 
     ghost taken = { λ source. ⟦<VecSource as Source>⟧.taken source.inner };
 
+    ghost last = { λ source. source.last };
+
     /// As the trait's; `Failed` comes at the listed calls and no others.
     fn read(&mut self, buf: &mut [u8]) -> Result<usize, Failed>
         ensures bound { ReadsAtMost result buf.new }
@@ -62,6 +67,7 @@ impl Source for FaultySource {
             (⟦<FaultySource as Source>⟧.left self.new) result buf.new }
         ensures count { TakenCount (⟦<FaultySource as Source>⟧.taken self.old)
             (⟦<FaultySource as Source>⟧.taken self.new) result }
+        ensures last { ⟦<FaultySource as Source>⟧.last self.new ≡ given_by result }
         ensures cause { SourceCause (⟦<FaultySource as Source>⟧.faults self.old)
             (⟦<FaultySource as Source>⟧.faults self.new) result }
         ensures fails { IsErr result ↔ Contains (source_fails_at self.old) (source_calls self.old) }
@@ -74,10 +80,13 @@ impl Source for FaultySource {
         self.calls = call.saturating_add(1);
         if self.fail_at.contains(&call) {
             self.faults = self.faults.saturating_add(1);
+            self.last = 0;
             return Err(Failed);
         }
         let most = buf.len().min(self.step);
-        read_front(&mut self.inner, buf, most)
+        let count = read_front(&mut self.inner, buf, most)?;
+        self.last = count;
+        Ok(count)
     }
 }
 

@@ -11,6 +11,7 @@ use std::alloc::Global;
 pub struct VecSource {
     bytes: Vec<u8>,
     taken: usize,
+    last: usize,
     ghost within: { taken ≤ length bytes.items },
 }
 
@@ -19,9 +20,14 @@ impl VecSource {
     pub fn new(bytes: Vec<u8>) -> VecSource
         ensures left { ⟦<VecSource as Source>⟧.left result ≡ Some bytes.items }
         ensures taken { ⟦<VecSource as Source>⟧.taken result ≡ 0 }
+        ensures last { ⟦<VecSource as Source>⟧.last result ≡ 0 }
         ensures faults { ⟦<VecSource as Source>⟧.faults result ≡ 0 }
     {
-        VecSource { bytes, taken: 0 }
+        VecSource {
+            bytes,
+            taken: 0,
+            last: 0,
+        }
     }
 }
 
@@ -32,11 +38,14 @@ impl Source for VecSource {
 
     ghost taken = { λ source. source.taken };
 
+    ghost last = { λ source. source.last };
+
     fn read(&mut self, buf: &mut [u8]) -> Result<usize, Failed> {
         let count = buf.len().min(self.bytes.len() - self.taken);
         let end = self.taken + count;
         buf[..count].copy_from_slice(&self.bytes[self.taken..end]);
         self.taken = end;
+        self.last = count;
         Ok(count)
     }
 }

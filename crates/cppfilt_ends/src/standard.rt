@@ -1,6 +1,7 @@
-//! The standard streams as a source and as sinks. They tell no bytes, and count their faults.
+//! Readers and writers of std as sources and sinks, the standard streams among them. They tell the bytes that the
+//! reader or the writer tells, and count their faults; the standard streams tell none.
 
-ghost use Rattle.std.specs.Prelude.{◌≡◌, None};
+ghost use Rattle.std.specs.Prelude.{◌≡◌};
 
 use crate::ends::{Failed, Sink, Source};
 use demangle_context::SinkFault;
@@ -12,37 +13,45 @@ pub struct StdSource<R> {
     inner: R,
     faults: u64,
     taken: u64,
+    last: usize,
 }
 
 impl<R: Read> StdSource<R> {
     /// A source over a reader, with no fault so far and nothing taken.
     pub fn new(inner: R) -> StdSource<R>
+        ensures left { ⟦<StdSource<R> as Source>⟧.left result ≡ R.remaining inner }
         ensures faults { ⟦<StdSource<R> as Source>⟧.faults result ≡ 0 }
         ensures taken { ⟦<StdSource<R> as Source>⟧.taken result ≡ 0 }
+        ensures last { ⟦<StdSource<R> as Source>⟧.last result ≡ 0 }
     {
         StdSource {
             inner,
             faults: 0,
             taken: 0,
+            last: 0,
         }
     }
 }
 
 impl<R: Read> Source for StdSource<R> {
-    ghost left = { λ _. None };
+    ghost left = { λ source. R.remaining source.inner };
 
     ghost faults = { λ source. source.faults };
 
     ghost taken = { λ source. source.taken };
 
+    ghost last = { λ source. source.last };
+
     fn read(&mut self, buf: &mut [u8]) -> Result<usize, Failed> {
         match self.inner.read(buf) {
             Ok(count) => {
                 self.taken = self.taken.saturating_add(count as u64);
+                self.last = count;
                 Ok(count)
             }
             Err(_) => {
                 self.faults = self.faults.saturating_add(1);
+                self.last = 0;
                 Err(Failed)
             }
         }
@@ -59,14 +68,15 @@ pub struct StdSink<W> {
 impl<W: Write> StdSink<W> {
     /// A sink over a writer, with no fault so far.
     pub fn new(inner: W) -> StdSink<W>
-        ensures { ⟦<StdSink<W> as Sink>⟧.faults result ≡ 0 }
+        ensures written { ⟦<StdSink<W> as Sink>⟧.written result ≡ W.contents inner }
+        ensures faults { ⟦<StdSink<W> as Sink>⟧.faults result ≡ 0 }
     {
         StdSink { inner, faults: 0 }
     }
 }
 
 impl<W: Write> Sink for StdSink<W> {
-    ghost written = { λ _. None };
+    ghost written = { λ sink. W.contents sink.inner };
 
     ghost faults = { λ sink. sink.faults };
 
