@@ -14,7 +14,7 @@ use Rattle.cppfilt_lines.specs.Lines.{unfinished, complete}
 use Rattle.cppfilt_lines.specs.Shown.{is_asked, answered, shown}
 use Rattle.cppfilt_lines.specs.Due.{shown_line, due}
 
-lines-at : (b : ℕ) (bs : List ℕ) → lines (b ∷ bs) ≡ cond (eqb b 10) ((b ∷ []) ∷ lines bs) (onto_first b (lines bs))
+pub lines-at : (b : ℕ) (bs : List ℕ) → lines (b ∷ bs) ≡ cond (eqb b 10) ((b ∷ []) ∷ lines bs) (onto_first b (lines bs))
 unfolding lines
 lines-at b bs = refl
 

@@ -11,7 +11,7 @@ use Rattle.demangle_grammar.proofs.Bridge.{reads_code}
 use Rattle.demangle_grammar.proofs.Cores.{reads_cores}
 use Rattle.demangle_grammar.proofs.Fit.{is_fit}
 use Rattle.demangle_grammar.proofs.Readings.{spelled, sound}
-use Rattle.demangle_printing.specs.Outcome.{Options, Shown, outcome, printed}
+use Rattle.demangle_printing.specs.Outcome.{Options, Shown, outcome}
 use Rattle.demangle_printing.specs.Outcome.{after_reading, when_read}
 use Rattle.std.specs.Prelude.{Option, Some, None, IfSome}
 use Rattle.std.specs.List.{All, slice_index_or}

@@ -1,4 +1,5 @@
 pub mod Due
+pub mod Laws
 pub mod Lines
 pub mod Named
 pub mod Sample
