@@ -97,12 +97,12 @@ helped-as OutOfMemory res w0 w k f = inr (inr k)
 helped-as _ res w0 w k f = absurd f
 
 -- ---- a run
-module _ (s res : Status) (r0 r w0 w t0 t : ℕ) (left0 left out0 out : Option (List ℕ)) (kept : Reported s res) where
+module _ (s res : Status) (r0 r w0 w t0 t g : ℕ) (left0 left out0 out : Option (List ℕ)) (kept : Reported s res) where
   abbrev HasRun : Verdict → Type 0
-  HasRun v = Ran v s r0 r w0 w t0 t left0 left out0 out
+  HasRun v = Ran v s r0 r w0 w t0 t g left0 left out0 out
 
   abbrev Filtered : Type 0
-  Filtered = (o : FilterOptions) × Stopped o s (2 ^ 40) r0 r w0 w t0 t left0 left out0 out
+  Filtered = (o : FilterOptions) × Stopped o s (2 ^ 40) r0 r w0 w t0 t g left0 left out0 out
 
   abbrev Other : Type 0
   Other = Unread r0 r t0 t left0 left × Quiet s w0 w
@@ -278,75 +278,75 @@ module _ (s res : Status) (r0 r w0 w t0 t : ℕ) (left0 left out0 out : Option (
 
   -- ---- lines
   ran-lines : (v : Verdict) → HasRun v → (o : FilterOptions) → v ≡ Asks o lines
-      → Stopped o s (2 ^ 40) r0 r w0 w t0 t left0 left out0 out
+      → Stopped o s (2 ^ 40) r0 r w0 w t0 t g left0 left out0 out
   ran-lines v p o is = asks v o lines is p
 
 -- ---- what holds at the end of a run
-module _ {v : Verdict} {res : Status} {r0 r w0 w t0 t : ℕ} {left0 left out0 out : Option (List ℕ)}
-    (x : Ended v res r0 r w0 w t0 t left0 left out0 out) where
+module _ {v : Verdict} {res : Status} {r0 r w0 w t0 t g : ℕ} {left0 left out0 out : Option (List ℕ)}
+    (x : Ended v res r0 r w0 w t0 t g left0 left out0 out) where
   pub ended-done : (o : FilterOptions) (work : Work) → v ≡ Asks o work → res ≡ Done
       → IfSome (input_for work left0) (λ bytes. Appends out0 out (due_for o work bytes))
-  ended-done = ran-done x.before res r0 r w0 w t0 t left0 left out0 out x.kept v x.ran
+  ended-done = ran-done x.before res r0 r w0 w t0 t g left0 left out0 out x.kept v x.ran
 
   pub ended-front : (o : FilterOptions) (work : Work) → v ≡ Asks o work
       → IfSome (input_for work left0) (λ bytes. Begins out0 out (due_for o work bytes))
-  ended-front = ran-front x.before res r0 r w0 w t0 t left0 left out0 out x.kept v x.ran
+  ended-front = ran-front x.before res r0 r w0 w t0 t g left0 left out0 out x.kept v x.ran
 
   pub ended-complete : (o : FilterOptions) (work : Work) → v ≡ Asks o work → NoFault r0 r → NoFault w0 w
       → IfSome (input_for work left0) (λ bytes. length bytes ≤ 2 ^ 40 → (res ≡ Done) ⊎ (res ≡ OutOfMemory))
-  ended-complete = ran-complete x.before res r0 r w0 w t0 t left0 left out0 out x.kept v x.ran
+  ended-complete = ran-complete x.before res r0 r w0 w t0 t g left0 left out0 out x.kept v x.ran
 
   pub ended-usage : res ≡ Usage → v ≡ Mistaken
-  ended-usage = ran-usage x.before res r0 r w0 w t0 t left0 left out0 out x.kept v x.ran
+  ended-usage = ran-usage x.before res r0 r w0 w t0 t g left0 left out0 out x.kept v x.ran
 
   pub ended-usage-told : v ≡ Mistaken → ((res ≡ Usage) ⊎ (res ≡ OutOfMemory)) × (out ≡ out0) × (w ≡ w0)
-  ended-usage-told = ran-usage-told x.before res r0 r w0 w t0 t left0 left out0 out x.kept v x.ran
+  ended-usage-told = ran-usage-told x.before res r0 r w0 w t0 t g left0 left out0 out x.kept v x.ran
 
   pub ended-help : res ≡ Help → v ≡ AsksHelp
-  ended-help = ran-help x.before res r0 r w0 w t0 t left0 left out0 out x.kept v x.ran
+  ended-help = ran-help x.before res r0 r w0 w t0 t g left0 left out0 out x.kept v x.ran
 
   pub ended-help-told : v ≡ AsksHelp → (res ≡ Help) ⊎ ((res ≡ WriteFault) ⊎ (res ≡ OutOfMemory))
-  ended-help-told = ran-help-told x.before res r0 r w0 w t0 t left0 left out0 out x.kept v x.ran
+  ended-help-told = ran-help-told x.before res r0 r w0 w t0 t g left0 left out0 out x.kept v x.ran
 
   pub ended-unread : reads v ≡ false → Unread r0 r t0 t left0 left
-  ended-unread = ran-unread x.before res r0 r w0 w t0 t left0 left out0 out x.kept v x.ran
+  ended-unread = ran-unread x.before res r0 r w0 w t0 t g left0 left out0 out x.kept v x.ran
 
   pub ended-read : res ≡ ReadFault → Rose r0 r
-  ended-read = ran-read x.before res r0 r w0 w t0 t left0 left out0 out x.kept v x.ran
+  ended-read = ran-read x.before res r0 r w0 w t0 t g left0 left out0 out x.kept v x.ran
 
   pub ended-read-told : r0 < r → (res ≡ ReadFault) ⊎ (res ≡ OutOfMemory)
-  ended-read-told = ran-read-told x.before res r0 r w0 w t0 t left0 left out0 out x.kept v x.ran
+  ended-read-told = ran-read-told x.before res r0 r w0 w t0 t g left0 left out0 out x.kept v x.ran
 
   pub ended-write : res ≡ WriteFault → Rose w0 w
-  ended-write = ran-write x.before res r0 r w0 w t0 t left0 left out0 out x.kept v x.ran
+  ended-write = ran-write x.before res r0 r w0 w t0 t g left0 left out0 out x.kept v x.ran
 
   pub ended-write-told : w0 < w → (res ≡ WriteFault) ⊎ (res ≡ OutOfMemory)
-  ended-write-told = ran-write-told x.before res r0 r w0 w t0 t left0 left out0 out x.kept v x.ran
+  ended-write-told = ran-write-told x.before res r0 r w0 w t0 t g left0 left out0 out x.kept v x.ran
 
   pub ended-long : res ≡ InputTooLong → (t0 + 2 ^ 40 < t) ⊎ (2 ^ 64 - 1 ≤ t)
-  ended-long = ran-long x.before res r0 r w0 w t0 t left0 left out0 out x.kept v x.ran
+  ended-long = ran-long x.before res r0 r w0 w t0 t g left0 left out0 out x.kept v x.ran
 
   pub ended-long-told : t0 + 2 ^ 40 < t → (res ≡ InputTooLong) ⊎ (res ≡ OutOfMemory)
-  ended-long-told = ran-long-told x.before res r0 r w0 w t0 t left0 left out0 out x.kept v x.ran
+  ended-long-told = ran-long-told x.before res r0 r w0 w t0 t g left0 left out0 out x.kept v x.ran
 
   pub ended-long-bytes : res ≡ InputTooLong → OfTaken left0 left (λ taken. length taken ≡ 2 ^ 40 + 1)
-  ended-long-bytes = ran-long-bytes x.before res r0 r w0 w t0 t left0 left out0 out x.kept v x.ran
+  ended-long-bytes = ran-long-bytes x.before res r0 r w0 w t0 t g left0 left out0 out x.kept v x.ran
 
   pub ended-long-bytes-told :
       OfTaken left0 left (λ taken. 2 ^ 40 < length taken → (res ≡ InputTooLong) ⊎ (res ≡ OutOfMemory))
-  ended-long-bytes-told = ran-long-bytes-told x.before res r0 r w0 w t0 t left0 left out0 out x.kept v x.ran
+  ended-long-bytes-told = ran-long-bytes-told x.before res r0 r w0 w t0 t g left0 left out0 out x.kept v x.ran
 
   pub ended-at_most : t ≤ t0 + 2 ^ 40 + 1
-  ended-at_most = ran-at_most x.before res r0 r w0 w t0 t left0 left out0 out x.kept v x.ran
+  ended-at_most = ran-at_most x.before res r0 r w0 w t0 t g left0 left out0 out x.kept v x.ran
 
   at : (o : FilterOptions) → v ≡ Asks o lines
-      → Stopped o x.before (2 ^ 40) r0 r w0 w t0 t left0 left out0 out
-  at = ran-lines x.before res r0 r w0 w t0 t left0 left out0 out x.kept v x.ran
+      → Stopped o x.before (2 ^ 40) r0 r w0 w t0 t g left0 left out0 out
+  at = ran-lines x.before res r0 r w0 w t0 t g left0 left out0 out x.kept v x.ran
 
   pub ended-done-reads : (o : FilterOptions) → v ≡ Asks o lines → res ≡ Done → IsAtEnd left
   ended-done-reads o is e = (run-done x.before res (at o is) x.kept e).0
 
-  pub ended-keeps_up : (o : FilterOptions) → v ≡ Asks o lines → OfTaken left0 left (KeepsUp o out0 out)
+  pub ended-keeps_up : (o : FilterOptions) → v ≡ Asks o lines → OfTaken left0 left (KeepsUp o g out0 out)
   ended-keeps_up o is = (at o is).keeps_up
 
   pub ended-read-written : (o : FilterOptions) → v ≡ Asks o lines → res ≡ ReadFault
@@ -362,20 +362,20 @@ module _ {v : Verdict} {res : Status} {r0 r w0 w t0 t : ℕ} {left0 left out0 ou
   ended-refused o is read write = run-refused x.before res (at o is) x.kept read write
 
 -- ---- how a run is put together
-pub ended : (v : Verdict) (s res : Status) (r0 r w0 w t0 t : ℕ) (left0 left out0 out : Option (List ℕ))
-    → Ran v s r0 r w0 w t0 t left0 left out0 out → Reported s res
-    → Ended v res r0 r w0 w t0 t left0 left out0 out
-ended v s res r0 r w0 w t0 t left0 left out0 out ran kept = record { before = s; ran = ran; kept = kept }
+pub ended : (v : Verdict) (s res : Status) (r0 r w0 w t0 t g : ℕ) (left0 left out0 out : Option (List ℕ))
+    → Ran v s r0 r w0 w t0 t g left0 left out0 out → Reported s res
+    → Ended v res r0 r w0 w t0 t g left0 left out0 out
+ended v s res r0 r w0 w t0 t g left0 left out0 out ran kept = record { before = s; ran = ran; kept = kept }
 
 -- there was no memory before anything else was done
-memory : (v : Verdict) (r w t : ℕ) (left out : Option (List ℕ)) → Ran v OutOfMemory r r w w t t left left out out
-memory Mistaken r w t left out = (inr refl, (refl, refl, refl), refl, refl)
-memory AsksHelp r w t left out = (refl, (refl, refl, refl))
-memory (Asks o lines) r w t left out = stop-memory o (2 ^ 40) r w t left out
-memory (Asks o (names given)) r w t left out = ((refl, refl, refl), (refl, begins-none out (due_names o given)))
-memory (Asks o (sample n)) r w t left out = ((refl, refl, refl), (refl, begins-none out (summary o n)))
+memory : (v : Verdict) (r w t g : ℕ) (left out : Option (List ℕ)) → Ran v OutOfMemory r r w w t t g left left out out
+memory Mistaken r w t g left out = (inr refl, (refl, refl, refl), refl, refl)
+memory AsksHelp r w t g left out = (refl, (refl, refl, refl))
+memory (Asks o lines) r w t g left out = stop-memory o (2 ^ 40) r w t g left out
+memory (Asks o (names given)) r w t g left out = ((refl, refl, refl), (refl, begins-none out (due_names o given)))
+memory (Asks o (sample n)) r w t g left out = ((refl, refl, refl), (refl, begins-none out (summary o n)))
 
-pub ended-memory : (v : Verdict) (res : Status) (r w t : ℕ) (left out : Option (List ℕ)) → Reported OutOfMemory res
-    → Ended v res r r w w t t left left out out
-ended-memory v res r w t left out kept =
-    ended v OutOfMemory res r r w w t t left left out out (memory v r w t left out) kept
+pub ended-memory : (v : Verdict) (res : Status) (r w t g : ℕ) (left out : Option (List ℕ)) → Reported OutOfMemory res
+    → Ended v res r r w w t t g left left out out
+ended-memory v res r w t g left out kept =
+    ended v OutOfMemory res r r w w t t g left left out out (memory v r w t g left out) kept

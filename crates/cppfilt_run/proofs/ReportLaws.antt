@@ -17,22 +17,22 @@ abbrev Bytes : Type 0
 Bytes = Option (List ℕ)
 
 -- ---- what was written
-pub run-done : (s res : Status) {o : FilterOptions} {limit r0 r w0 w t0 t : ℕ} {left0 left out0 out : Bytes}
-    → Stopped o s limit r0 r w0 w t0 t left0 left out0 out → (res ≡ s) ⊎ (res ≡ OutOfMemory) → res ≡ Done
+pub run-done : (s res : Status) {o : FilterOptions} {limit r0 r w0 w t0 t g : ℕ} {left0 left out0 out : Bytes}
+    → Stopped o s limit r0 r w0 w t0 t g left0 left out0 out → (res ≡ s) ⊎ (res ≡ OutOfMemory) → res ≡ Done
     → IsAtEnd left × IfSome left0 (λ input. Appends out0 out (due o input))
 run-done Done res st k e = st.written
 run-done _ res st (inl k) e = absurd cc
 run-done _ res st (inr k) e = absurd cc
 
-pub run-read-written : (s res : Status) {o : FilterOptions} {limit r0 r w0 w t0 t : ℕ} {left0 left out0 out : Bytes}
-    → Stopped o s limit r0 r w0 w t0 t left0 left out0 out → (res ≡ s) ⊎ (res ≡ OutOfMemory) → res ≡ ReadFault
+pub run-read-written : (s res : Status) {o : FilterOptions} {limit r0 r w0 w t0 t g : ℕ} {left0 left out0 out : Bytes}
+    → Stopped o s limit r0 r w0 w t0 t g left0 left out0 out → (res ≡ s) ⊎ (res ≡ OutOfMemory) → res ≡ ReadFault
     → OfTaken left0 left (λ taken. Appends out0 out (due o (complete taken)))
 run-read-written ReadFault res st k e = st.written
 run-read-written _ res st (inl k) e = absurd cc
 run-read-written _ res st (inr k) e = absurd cc
 
-pub run-long-written : (s res : Status) {o : FilterOptions} {limit r0 r w0 w t0 t : ℕ} {left0 left out0 out : Bytes}
-    → Stopped o s limit r0 r w0 w t0 t left0 left out0 out → (res ≡ s) ⊎ (res ≡ OutOfMemory) → res ≡ InputTooLong
+pub run-long-written : (s res : Status) {o : FilterOptions} {limit r0 r w0 w t0 t g : ℕ} {left0 left out0 out : Bytes}
+    → Stopped o s limit r0 r w0 w t0 t g left0 left out0 out → (res ≡ s) ⊎ (res ≡ OutOfMemory) → res ≡ InputTooLong
     → IfSome left0 (λ input. Appends out0 out (due o (complete (take limit input))))
 run-long-written InputTooLong res st k e = st.written
 run-long-written _ res st (inl k) e = absurd cc
@@ -74,8 +74,8 @@ not-long (Some x) P limit short = λ long. absurd (omega arith)
 pub fault-free : (r0 r : ℕ) → NoFault r0 r → Rose r0 r → ⊥
 fault-free r0 r none rose = let e = none.0 in let l = none.1 in omega (arith, rose)
 
-pub run-complete : (s res : Status) {o : FilterOptions} {limit r0 r w0 w t0 t : ℕ} {left0 left out0 out : Bytes}
-    → Stopped o s limit r0 r w0 w t0 t left0 left out0 out → (res ≡ s) ⊎ (res ≡ OutOfMemory) → NoFault r0 r
+pub run-complete : (s res : Status) {o : FilterOptions} {limit r0 r w0 w t0 t g : ℕ} {left0 left out0 out : Bytes}
+    → Stopped o s limit r0 r w0 w t0 t g left0 left out0 out → (res ≡ s) ⊎ (res ≡ OutOfMemory) → NoFault r0 r
     → NoFault w0 w → IfSome left0 (λ input. length input ≤ limit → (res ≡ Done) ⊎ (res ≡ OutOfMemory))
 run-complete Done res {o} {limit} {r0} {r} {w0} {w} {t0} {t} {left0} {left} st k nr nw =
     always left0 _ (λ input. length input ≤ limit) k
@@ -92,8 +92,8 @@ run-complete ReadFault res {o} {limit} {r0} {r} {w0} {w} {t0} {t} {left0} {left}
 run-complete WriteFault res {o} {limit} {r0} {r} {w0} {w} {t0} {t} {left0} {left} st k nr nw =
     absurd (fault-free w0 w nw st.faults.1.1)
 
-pub run-refused : (s res : Status) {o : FilterOptions} {limit r0 r w0 w t0 t : ℕ} {left0 left out0 out : Bytes}
-    → Stopped o s limit r0 r w0 w t0 t left0 left out0 out → (res ≡ s) ⊎ (res ≡ OutOfMemory) → NoFault r0 r
+pub run-refused : (s res : Status) {o : FilterOptions} {limit r0 r w0 w t0 t g : ℕ} {left0 left out0 out : Bytes}
+    → Stopped o s limit r0 r w0 w t0 t g left0 left out0 out → (res ≡ s) ⊎ (res ≡ OutOfMemory) → NoFault r0 r
     → NoFault w0 w
     → IfSome left0 (λ input. limit < length input → (res ≡ InputTooLong) ⊎ (res ≡ OutOfMemory))
 run-refused InputTooLong res {o} {limit} {r0} {r} {w0} {w} {t0} {t} {left0} {left} st k nr nw =
@@ -111,77 +111,77 @@ run-refused ReadFault res {o} {limit} {r0} {r} {w0} {w} {t0} {t} {left0} {left} 
 run-refused WriteFault res {o} {limit} {r0} {r} {w0} {w} {t0} {t} {left0} {left} st k nr nw =
     absurd (fault-free w0 w nw st.faults.1.1)
 
-pub run-long : (s res : Status) {o : FilterOptions} {limit r0 r w0 w t0 t : ℕ} {left0 left out0 out : Bytes}
-    → Stopped o s limit r0 r w0 w t0 t left0 left out0 out → (res ≡ s) ⊎ (res ≡ OutOfMemory) → res ≡ InputTooLong
+pub run-long : (s res : Status) {o : FilterOptions} {limit r0 r w0 w t0 t g : ℕ} {left0 left out0 out : Bytes}
+    → Stopped o s limit r0 r w0 w t0 t g left0 left out0 out → (res ≡ s) ⊎ (res ≡ OutOfMemory) → res ≡ InputTooLong
     → (t0 + limit < t) ⊎ (2 ^ 64 - 1 ≤ t)
 run-long InputTooLong res st k e = st.amount.0
 run-long _ res st (inl k) e = absurd cc
 run-long _ res st (inr k) e = absurd cc
 
-pub run-long-bytes : (s res : Status) {o : FilterOptions} {limit r0 r w0 w t0 t : ℕ} {left0 left out0 out : Bytes}
-    → Stopped o s limit r0 r w0 w t0 t left0 left out0 out → (res ≡ s) ⊎ (res ≡ OutOfMemory) → res ≡ InputTooLong
+pub run-long-bytes : (s res : Status) {o : FilterOptions} {limit r0 r w0 w t0 t g : ℕ} {left0 left out0 out : Bytes}
+    → Stopped o s limit r0 r w0 w t0 t g left0 left out0 out → (res ≡ s) ⊎ (res ≡ OutOfMemory) → res ≡ InputTooLong
     → OfTaken left0 left (λ taken. length taken ≡ limit + 1)
 run-long-bytes InputTooLong res st k e = st.amount.2
 run-long-bytes _ res st (inl k) e = absurd cc
 run-long-bytes _ res st (inr k) e = absurd cc
 
-pub run-long-told : (s res : Status) {o : FilterOptions} {limit r0 r w0 w t0 t : ℕ} {left0 left out0 out : Bytes}
-    → Stopped o s limit r0 r w0 w t0 t left0 left out0 out → (res ≡ s) ⊎ (res ≡ OutOfMemory) → t0 + limit < t
+pub run-long-told : (s res : Status) {o : FilterOptions} {limit r0 r w0 w t0 t g : ℕ} {left0 left out0 out : Bytes}
+    → Stopped o s limit r0 r w0 w t0 t g left0 left out0 out → (res ≡ s) ⊎ (res ≡ OutOfMemory) → t0 + limit < t
     → (res ≡ InputTooLong) ⊎ (res ≡ OutOfMemory)
 run-long-told InputTooLong res st k rose = k
 run-long-told _ res st k rose = let e = st.amount.0 in absurd (omega arith)
 
-pub run-long-bytes-told : (s res : Status) {o : FilterOptions} {limit r0 r w0 w t0 t : ℕ} {left0 left out0 out : Bytes}
-    → Stopped o s limit r0 r w0 w t0 t left0 left out0 out → (res ≡ s) ⊎ (res ≡ OutOfMemory)
+pub run-long-bytes-told : (s res : Status) {o : FilterOptions} {limit r0 r w0 w t0 t g : ℕ} {left0 left out0 out : Bytes}
+    → Stopped o s limit r0 r w0 w t0 t g left0 left out0 out → (res ≡ s) ⊎ (res ≡ OutOfMemory)
     → OfTaken left0 left (λ taken. limit < length taken → (res ≡ InputTooLong) ⊎ (res ≡ OutOfMemory))
 run-long-bytes-told InputTooLong res {o} {limit} {r0} {r} {w0} {w} {t0} {t} {left0} {left} st k =
     of-map left0 left _ _ (λ bytes size long. k) st.amount.2
 run-long-bytes-told _ res {o} {limit} {r0} {r} {w0} {w} {t0} {t} {left0} {left} st k =
     of-map left0 left _ _ (λ bytes size long. absurd (omega arith)) st.amount.1
 
-pub run-at_most : (s : Status) {o : FilterOptions} {limit r0 r w0 w t0 t : ℕ} {left0 left out0 out : Bytes}
-    → Stopped o s limit r0 r w0 w t0 t left0 left out0 out → t ≤ t0 + limit + 1
+pub run-at_most : (s : Status) {o : FilterOptions} {limit r0 r w0 w t0 t g : ℕ} {left0 left out0 out : Bytes}
+    → Stopped o s limit r0 r w0 w t0 t g left0 left out0 out → t ≤ t0 + limit + 1
 run-at_most InputTooLong st = st.amount.1
 run-at_most _ st = let e = st.amount.0 in omega arith
 
 -- ---- faults
-pub run-usage : (s res : Status) {o : FilterOptions} {limit r0 r w0 w t0 t : ℕ} {left0 left out0 out : Bytes}
-    → Stopped o s limit r0 r w0 w t0 t left0 left out0 out → (res ≡ s) ⊎ (res ≡ OutOfMemory) → res ≡ Usage → ⊥
+pub run-usage : (s res : Status) {o : FilterOptions} {limit r0 r w0 w t0 t g : ℕ} {left0 left out0 out : Bytes}
+    → Stopped o s limit r0 r w0 w t0 t g left0 left out0 out → (res ≡ s) ⊎ (res ≡ OutOfMemory) → res ≡ Usage → ⊥
 run-usage Usage res st k e = st.faults
 run-usage Help res st k e = st.faults
 run-usage _ res st (inl k) e = cc
 run-usage _ res st (inr k) e = cc
 
-pub run-help : (s res : Status) {o : FilterOptions} {limit r0 r w0 w t0 t : ℕ} {left0 left out0 out : Bytes}
-    → Stopped o s limit r0 r w0 w t0 t left0 left out0 out → (res ≡ s) ⊎ (res ≡ OutOfMemory) → res ≡ Help → ⊥
+pub run-help : (s res : Status) {o : FilterOptions} {limit r0 r w0 w t0 t g : ℕ} {left0 left out0 out : Bytes}
+    → Stopped o s limit r0 r w0 w t0 t g left0 left out0 out → (res ≡ s) ⊎ (res ≡ OutOfMemory) → res ≡ Help → ⊥
 run-help Help res st k e = st.faults
 run-help _ res st (inl k) e = cc
 run-help _ res st (inr k) e = cc
 
-pub run-read : (s res : Status) {o : FilterOptions} {limit r0 r w0 w t0 t : ℕ} {left0 left out0 out : Bytes}
-    → Stopped o s limit r0 r w0 w t0 t left0 left out0 out → (res ≡ s) ⊎ (res ≡ OutOfMemory) → res ≡ ReadFault
+pub run-read : (s res : Status) {o : FilterOptions} {limit r0 r w0 w t0 t g : ℕ} {left0 left out0 out : Bytes}
+    → Stopped o s limit r0 r w0 w t0 t g left0 left out0 out → (res ≡ s) ⊎ (res ≡ OutOfMemory) → res ≡ ReadFault
     → Rose r0 r
 run-read ReadFault res st k e = st.faults.0.1
 run-read _ res st (inl k) e = absurd cc
 run-read _ res st (inr k) e = absurd cc
 
-pub run-read-told : (s res : Status) {o : FilterOptions} {limit r0 r w0 w t0 t : ℕ} {left0 left out0 out : Bytes}
-    → Stopped o s limit r0 r w0 w t0 t left0 left out0 out → (res ≡ s) ⊎ (res ≡ OutOfMemory) → r0 < r
+pub run-read-told : (s res : Status) {o : FilterOptions} {limit r0 r w0 w t0 t g : ℕ} {left0 left out0 out : Bytes}
+    → Stopped o s limit r0 r w0 w t0 t g left0 left out0 out → (res ≡ s) ⊎ (res ≡ OutOfMemory) → r0 < r
     → (res ≡ ReadFault) ⊎ (res ≡ OutOfMemory)
 run-read-told ReadFault res st k rose = k
 run-read-told Usage res st k rose = absurd st.faults
 run-read-told Help res st k rose = absurd st.faults
 run-read-told _ res st k rose = let e = st.faults.0 in absurd (omega arith)
 
-pub run-write : (s res : Status) {o : FilterOptions} {limit r0 r w0 w t0 t : ℕ} {left0 left out0 out : Bytes}
-    → Stopped o s limit r0 r w0 w t0 t left0 left out0 out → (res ≡ s) ⊎ (res ≡ OutOfMemory) → res ≡ WriteFault
+pub run-write : (s res : Status) {o : FilterOptions} {limit r0 r w0 w t0 t g : ℕ} {left0 left out0 out : Bytes}
+    → Stopped o s limit r0 r w0 w t0 t g left0 left out0 out → (res ≡ s) ⊎ (res ≡ OutOfMemory) → res ≡ WriteFault
     → Rose w0 w
 run-write WriteFault res st k e = st.faults.1.1
 run-write _ res st (inl k) e = absurd cc
 run-write _ res st (inr k) e = absurd cc
 
-pub run-write-told : (s res : Status) {o : FilterOptions} {limit r0 r w0 w t0 t : ℕ} {left0 left out0 out : Bytes}
-    → Stopped o s limit r0 r w0 w t0 t left0 left out0 out → (res ≡ s) ⊎ (res ≡ OutOfMemory) → w0 < w
+pub run-write-told : (s res : Status) {o : FilterOptions} {limit r0 r w0 w t0 t g : ℕ} {left0 left out0 out : Bytes}
+    → Stopped o s limit r0 r w0 w t0 t g left0 left out0 out → (res ≡ s) ⊎ (res ≡ OutOfMemory) → w0 < w
     → (res ≡ WriteFault) ⊎ (res ≡ OutOfMemory)
 run-write-told WriteFault res st k rose = k
 run-write-told Usage res st k rose = absurd st.faults

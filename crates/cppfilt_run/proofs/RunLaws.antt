@@ -123,25 +123,28 @@ going-so_far {o} {limit} {r0} {r} {w0} {w} {t0} {t} {left0} {left} {out0} {out} 
     so_far o out0 out g.bytes gathered held g.flushed g.kept (g.moves [])
 
 -- nothing is behind a last block
-pub keeps_up-all : (o : FilterOptions) (out0 out : Bytes) (taken : List ℕ)
-    → Appends out0 out (due o (complete taken)) → KeepsUp o out0 out taken
-keeps_up-all o out0 out taken a = record {
+pub keeps_up-all : (o : FilterOptions) (given : ℕ) (out0 out : Bytes) (taken : List ℕ)
+    → Appends out0 out (due o (complete taken)) → KeepsUp o given out0 out taken
+keeps_up-all o given out0 out taken a = record {
   seen = taken;
   last = [];
   more = [];
   parts = sym (append-nil taken);
+  from_last_read = omega arith;
   small = omega arith;
   appends = rw append-nil a;
 }
 
 -- a last block is, and maybe more was written
-keeps_up-more : (o : FilterOptions) (out0 out out' : Bytes) (seen block more : List ℕ) → length block ≤ block_limit
-    → Appends out0 out (due o (complete seen)) → Appends out out' more → KeepsUp o out0 out' (seen ++ block)
-keeps_up-more o out0 out out' seen block more small a b = record {
+keeps_up-more : (o : FilterOptions) (given : ℕ) (out0 out out' : Bytes) (seen block more : List ℕ)
+    → length block ≤ given → length block ≤ block_limit
+    → Appends out0 out (due o (complete seen)) → Appends out out' more → KeepsUp o given out0 out' (seen ++ block)
+keeps_up-more o given out0 out out' seen block more of_last small a b = record {
   seen = seen;
   last = block;
   more = more;
   parts = refl;
+  from_last_read = of_last;
   small = small;
   appends = Appends-trans out0 out out' (due o (complete seen)) more a b;
 }
@@ -172,11 +175,11 @@ first-of (Some x) (Some y) bytes last P c p =
 -- ---- how a run stops
 -- a read failed
 pub stop-read : {o : FilterOptions} {limit r0 r w0 w t0 t : ℕ} {left0 left out0 out : Bytes}
-    {gathered held : List ℕ} {count : ℕ} (r' t' : ℕ) (left' : Bytes)
+    {gathered held : List ℕ} {count : ℕ} (r' t' given : ℕ) (left' : Bytes)
     → Going o limit r0 r w0 w t0 t left0 left out0 out gathered held count → (r ≤ r') × Rose r r' → t' ≡ t
-    → Keeps left left' → Stopped o ReadFault limit r0 r' w0 w t0 t' left0 left' out0 out
+    → Keeps left left' → Stopped o ReadFault limit r0 r' w0 w t0 t' given left0 left' out0 out
 stop-read {o} {limit} {r0} {r} {w0} {w} {t0} {t} {left0} {left} {out0} {out} {gathered} {held}
-    r' t' left' g rose et kept =
+    r' t' given left' g rose et kept =
     let e = g.reads in
     let h = g.at_most in
     let k = g.within in
@@ -187,18 +190,19 @@ stop-read {o} {limit} {r0} {r} {w0} {w} {t0} {t} {left0} {left} {out0} {out} {ga
       amount = (omega arith, of-taken left0 left' (λ taken. length taken ≤ limit) g.bytes c (omega arith));
       front = front-of o left0 left' out0 out g.bytes c
           (λ more. begins out0 out (due o (g.bytes ++ more)) (ahead o gathered held more) (g.moves more));
-      keeps_up = of-taken left0 left' (KeepsUp o out0 out) g.bytes c (keeps_up-all o out0 out g.bytes a);
+      keeps_up = of-taken left0 left' (KeepsUp o given out0 out) g.bytes c (keeps_up-all o given out0 out g.bytes a);
       written = of-taken left0 left' (λ taken. Appends out0 out (due o (complete taken))) g.bytes c a;
     }
 
 -- more bytes come than are taken
 pub stop-long : {o : FilterOptions} {limit r0 r w0 w t0 t : ℕ} {left0 left out0 out : Bytes}
-    {gathered held : List ℕ} {count : ℕ} (n r' t' : ℕ) (left' : Bytes) (bytes : List ℕ)
+    {gathered held : List ℕ} {count : ℕ} (n r' t' given : ℕ) (left' : Bytes) (bytes : List ℕ)
     → Going o limit r0 r w0 w t0 t left0 left out0 out gathered held count → limit ≤ count → n ≡ 1 → r' ≡ r
+    → given ≡ n
     → t' ≡ min (t + n) (2 ^ 64 - 1) → length bytes ≡ n → Consumes left left' bytes
-    → Stopped o InputTooLong limit r0 r' w0 w t0 t' left0 left' out0 out
+    → Stopped o InputTooLong limit r0 r' w0 w t0 t' given left0 left' out0 out
 stop-long {o} {limit} {r0} {r} {w0} {w} {t0} {t} {left0} {left} {out0} {out} {gathered} {held} {count}
-    n r' t' left' bytes g full one er et eb c =
+    n r' t' given left' bytes g full one er eg et eb c =
     let h = g.at_most in
     let k = g.within in
     let counted = g.counted in
@@ -216,22 +220,22 @@ stop-long {o} {limit} {r0} {r} {w0} {w} {t0} {t} {left0} {left} {out0} {out} {ga
           (λ more. rw (append_assoc g.bytes bytes more)
           (begins out0 out (due o (g.bytes ++ (bytes ++ more))) (ahead o gathered held (bytes ++ more))
           (g.moves (bytes ++ more))));
-      keeps_up = of-taken left0 left' (KeepsUp o out0 out) (g.bytes ++ bytes) c'
-          (keeps_up-more o out0 out out g.bytes bytes [] (omega arith) a (Appends-nil out));
+      keeps_up = of-taken left0 left' (KeepsUp o given out0 out) (g.bytes ++ bytes) c'
+          (keeps_up-more o given out0 out out g.bytes bytes [] (omega arith) (omega arith) a (Appends-nil out));
       written = subst (λ m. IfSome left0 (λ input. Appends out0 out (due o (complete (take m input))))) size
           (first-of left0 left' g.bytes bytes (λ first. Appends out0 out (due o (complete first))) c' a);
     }
 
 -- a write failed, or found no memory
 stop-by : {o : FilterOptions} {limit r0 r w0 w t0 t : ℕ} {left0 left out0 out : Bytes}
-    {gathered held : List ℕ} {count : ℕ} (n t' : ℕ) (left' out' : Bytes) (bytes : List ℕ)
-    → Going o limit r0 r w0 w t0 t left0 left out0 out gathered held count → t' ≡ min (t + n) (2 ^ 64 - 1)
-    → length bytes ≡ n → n ≤ block_limit → count + n ≤ limit → Consumes left left' bytes
+    {gathered held : List ℕ} {count : ℕ} (n t' given : ℕ) (left' out' : Bytes) (bytes : List ℕ)
+    → Going o limit r0 r w0 w t0 t left0 left out0 out gathered held count → given ≡ n
+    → t' ≡ min (t + n) (2 ^ 64 - 1) → length bytes ≡ n → n ≤ block_limit → count + n ≤ limit → Consumes left left' bytes
     → ((more : List ℕ) → Begins out out' (ahead o gathered held (bytes ++ more)))
     → ((t' ≤ t0 + limit) × OfTaken left0 left' (λ taken. length taken ≤ limit))
-    × IfSome left0 (λ input. Begins out0 out' (due o input)) × OfTaken left0 left' (KeepsUp o out0 out')
+    × IfSome left0 (λ input. Begins out0 out' (due o input)) × OfTaken left0 left' (KeepsUp o given out0 out')
 stop-by {o} {limit} {r0} {r} {w0} {w} {t0} {t} {left0} {left} {out0} {out} {gathered} {held} {count}
-    n t' left' out' bytes g et eb small within c f =
+    n t' given left' out' bytes g eg et eb small within c f =
     let h = g.at_most in
     let counted = g.counted in
     let c' = Consumes-trans left0 left left' g.bytes bytes g.consumes c in
@@ -244,39 +248,39 @@ stop-by {o} {limit} {r0} {r} {w0} {w} {t0} {t} {left0} {left} {out0} {out} {gath
           (λ more. rw (append_assoc g.bytes bytes more)
           (begins-then out0 out out' (due o (g.bytes ++ (bytes ++ more))) (ahead o gathered held (bytes ++ more))
           (g.moves (bytes ++ more)) (f more))),
-      of-taken left0 left' (KeepsUp o out0 out') (g.bytes ++ bytes) c'
-          (keeps_up-more o out0 out out' g.bytes bytes b.given (omega arith) (going-so_far g) b.appends),
+      of-taken left0 left' (KeepsUp o given out0 out') (g.bytes ++ bytes) c'
+          (keeps_up-more o given out0 out out' g.bytes bytes b.given (omega arith) (omega arith) (going-so_far g) b.appends),
     )
 
 pub stop-write : {o : FilterOptions} {limit r0 r w0 w t0 t : ℕ} {left0 left out0 out : Bytes}
-    {gathered held : List ℕ} {count : ℕ} (e : SinkFault) (n r' w' t' : ℕ) (left' out' : Bytes) (bytes : List ℕ)
-    → Going o limit r0 r w0 w t0 t left0 left out0 out gathered held count → r' ≡ r
+    {gathered held : List ℕ} {count : ℕ} (e : SinkFault) (n r' w' t' given : ℕ) (left' out' : Bytes) (bytes : List ℕ)
+    → Going o limit r0 r w0 w t0 t left0 left out0 out gathered held count → r' ≡ r → given ≡ n
     → t' ≡ min (t + n) (2 ^ 64 - 1) → length bytes ≡ n → n ≤ block_limit → count + n ≤ limit
     → Consumes left left' bytes → SinkCause {T = Unit {0}} w w' (Err e)
     → ((more : List ℕ) → Begins out out' (ahead o gathered held (bytes ++ more)))
-    → Stopped o (refusal_status e) limit r0 r' w0 w' t0 t' left0 left' out0 out'
-stop-write fault.Failed n r' w' t' left' out' bytes g er et eb small within c cause f =
+    → Stopped o (refusal_status e) limit r0 r' w0 w' t0 t' given left0 left' out0 out'
+stop-write fault.Failed n r' w' t' given left' out' bytes g er eg et eb small within c cause f =
     let e = g.writes in
-    let s = stop-by n t' left' out' bytes g et eb small within c f in record {
+    let s = stop-by n t' given left' out' bytes g eg et eb small within c f in record {
       faults = (er ∙ g.reads, (omega (arith, cause.0), rw (← e) cause.1));
       amount = s.0;
       front = s.1;
       keeps_up = s.2;
       written = tt;
     }
-stop-write fault.OutOfMemory n r' w' t' left' out' bytes g er et eb small within c cause f =
-    let s = stop-by n t' left' out' bytes g et eb small within c f in
+stop-write fault.OutOfMemory n r' w' t' given left' out' bytes g er eg et eb small within c cause f =
+    let s = stop-by n t' given left' out' bytes g eg et eb small within c f in
     record { faults = (er ∙ g.reads, cause ∙ g.writes); amount = s.0; front = s.1; keeps_up = s.2; written = tt }
 
 -- the end of the input
 end-by : {o : FilterOptions} {limit r0 r w0 w t0 t : ℕ} {left0 left out0 out : Bytes}
-    {gathered held : List ℕ} {count : ℕ} (t' : ℕ) (left' out' : Bytes)
+    {gathered held : List ℕ} {count : ℕ} (t' given : ℕ) (left' out' : Bytes)
     → Going o limit r0 r w0 w t0 t left0 left out0 out gathered held count → t' ≡ min (t + 0) (2 ^ 64 - 1)
     → Consumes left left' [] → IsAtEnd left' → Begins out out' (ahead o gathered held [])
     → ((t' ≤ t0 + limit) × OfTaken left0 left' (λ taken. length taken ≤ limit))
-    × IfSome left0 (λ input. Begins out0 out' (due o input)) × OfTaken left0 left' (KeepsUp o out0 out')
+    × IfSome left0 (λ input. Begins out0 out' (due o input)) × OfTaken left0 left' (KeepsUp o given out0 out')
 end-by {o} {limit} {r0} {r} {w0} {w} {t0} {t} {left0} {left} {out0} {out} {gathered} {held}
-    t' left' out' g et c end f =
+    t' given left' out' g et c end f =
     let h = g.at_most in
     let k = g.within in
     let counted = g.counted in
@@ -284,13 +288,13 @@ end-by {o} {limit} {r0} {r} {w0} {w} {t0} {t} {left0} {left} {out0} {out} {gathe
     rw (← append-nil g.bytes) (Consumes-trans left0 left left' g.bytes [] g.consumes c) in
     let before : Moves out0 out (due o g.bytes) (ahead o gathered held []) =
     rw (← append-nil g.bytes) (g.moves []) in
-    let up : KeepsUp o out0 out' g.bytes =
+    let up : KeepsUp o given out0 out' g.bytes =
     rw (← append-nil g.bytes)
-    (keeps_up-more o out0 out out' g.bytes [] f.moves.given (omega arith) (going-so_far g) f.moves.appends) in (
+    (keeps_up-more o given out0 out out' g.bytes [] f.moves.given (omega arith) (omega arith) (going-so_far g) f.moves.appends) in (
       (omega arith, of-taken left0 left' (λ taken. length taken ≤ limit) g.bytes c' (omega arith)),
       whole-of left0 left' g.bytes (λ input. Begins out0 out' (due o input)) c' end
           (begins-then out0 out out' (due o g.bytes) (ahead o gathered held []) before f),
-      of-taken left0 left' (KeepsUp o out0 out') g.bytes c' up,
+      of-taken left0 left' (KeepsUp o given out0 out') g.bytes c' up,
     )
 
 -- all was given
@@ -312,35 +316,35 @@ end-written {o} {limit} {r0} {r} {w0} {w} {t0} {t} {left0} {left} {out0} {out} {
     (moves-all out0 out' (due o g.bytes) all)
 
 stop-end : {o : FilterOptions} {limit r0 r w0 w t0 t : ℕ} {left0 left out0 out : Bytes}
-    {gathered held : List ℕ} {count : ℕ} (status : Status) (r' w' t' : ℕ) (left' out' : Bytes)
+    {gathered held : List ℕ} {count : ℕ} (status : Status) (r' w' t' given : ℕ) (left' out' : Bytes)
     → Going o limit r0 r w0 w t0 t left0 left out0 out gathered held count → r' ≡ r
     → t' ≡ min (t + 0) (2 ^ 64 - 1) → Consumes left left' [] → IsAtEnd left'
     → Finished status w w' out out' (ahead o gathered held [])
-    → Stopped o status limit r0 r' w0 w' t0 t' left0 left' out0 out'
-stop-end {o} {out} {gathered} {held} Done r' w' t' left' out' g er et c end f =
-    let s = end-by t' left' out' g et c end (begins out out' (ahead o gathered held []) [] f.1) in record {
+    → Stopped o status limit r0 r' w0 w' t0 t' given left0 left' out0 out'
+stop-end {o} {out} {gathered} {held} Done r' w' t' given left' out' g er et c end f =
+    let s = end-by t' given left' out' g et c end (begins out out' (ahead o gathered held []) [] f.1) in record {
       faults = (er ∙ g.reads, f.0 ∙ g.writes);
       amount = s.0;
       front = s.1;
       keeps_up = s.2;
       written = (end, end-written left' out' g c end f.1);
     }
-stop-end WriteFault r' w' t' left' out' g er et c end f =
+stop-end WriteFault r' w' t' given left' out' g er et c end f =
     let e = g.writes in
-    let s = end-by t' left' out' g et c end f.1 in record {
+    let s = end-by t' given left' out' g et c end f.1 in record {
       faults = (er ∙ g.reads, (omega (arith, f.0.0), rw (← e) f.0.1));
       amount = s.0;
       front = s.1;
       keeps_up = s.2;
       written = tt;
     }
-stop-end OutOfMemory r' w' t' left' out' g er et c end f =
-    let s = end-by t' left' out' g et c end f.1 in
+stop-end OutOfMemory r' w' t' given left' out' g er et c end f =
+    let s = end-by t' given left' out' g et c end f.1 in
     record { faults = (er ∙ g.reads, f.0 ∙ g.writes); amount = s.0; front = s.1; keeps_up = s.2; written = tt }
-stop-end Help r' w' t' left' out' g er et c end f = absurd f
-stop-end Usage r' w' t' left' out' g er et c end f = absurd f
-stop-end ReadFault r' w' t' left' out' g er et c end f = absurd f
-stop-end InputTooLong r' w' t' left' out' g er et c end f = absurd f
+stop-end Help r' w' t' given left' out' g er et c end f = absurd f
+stop-end Usage r' w' t' given left' out' g er et c end f = absurd f
+stop-end ReadFault r' w' t' given left' out' g er et c end f = absurd f
+stop-end InputTooLong r' w' t' given left' out' g er et c end f = absurd f
 
 -- the end of the input, by what the sink answered
 pub finished-refused : (e : SinkFault) (w w' : ℕ) (out out' : Bytes) (whole : List ℕ)
@@ -351,43 +355,44 @@ finished-refused fault.OutOfMemory w w' out out' whole g = g
 
 -- a read gave nothing
 pub stop-empty : {o : FilterOptions} {limit r0 r w0 w t0 t : ℕ} {left0 left out0 out : Bytes}
-    {gathered held : List ℕ} {count : ℕ} (status : Status) (n r' w' t' : ℕ) (left' out' : Bytes) (block : List ℕ)
+    {gathered held : List ℕ} {count : ℕ} (status : Status) (n r' w' t' given : ℕ) (left' out' : Bytes) (block : List ℕ)
     → Going o limit r0 r w0 w t0 t left0 left out0 out gathered held count → n ≡ 0 → 0 < length block → r' ≡ r
     → t' ≡ min (t + n) (2 ^ 64 - 1)
     → Consumes left left' (take n block) × (n ≡ 0 → 0 < length block → IsAtEnd left')
     → Finished status w w' out out' (ahead o gathered held [])
-    → Stopped o status limit r0 r' w0 w' t0 t' left0 left' out0 out'
-stop-empty {o} {limit} {r0} {r} {w0} {w} {t0} {t} {left0} {left} status n r' w' t' left' out' block
+    → Stopped o status limit r0 r' w0 w' t0 t' given left0 left' out0 out'
+stop-empty {o} {limit} {r0} {r} {w0} {w} {t0} {t} {left0} {left} status n r' w' t' given left' out' block
     g none room er et c f =
     let nothing : take n block ≡ [] = ap (λ k. take k block) none in
     let consumes : Consumes left left' [] = rw (← nothing) c.0 in
     let et' : t' ≡ min (t + 0) (2 ^ 64 - 1) = et ∙ ap (λ k. min (t + k) (2 ^ 64 - 1)) none in
-    stop-end status r' w' t' left' out' g er et' consumes (c.1 none room) f
+    stop-end status r' w' t' given left' out' g er et' consumes (c.1 none room) f
 
 -- ---- where nothing was taken and nothing written
 pub nothing-front : (o : FilterOptions) (left out : Bytes) → IfSome left (λ input. Begins out out (due o input))
 nothing-front o None out = tt
 nothing-front o (Some x) out = begins-none out (due o x)
 
-pub nothing-keeps_up : (o : FilterOptions) (left out : Bytes) → OfTaken left left (KeepsUp o out out)
-nothing-keeps_up o left out =
-    of-taken left left (KeepsUp o out out) [] (Consumes-nil left)
-    (keeps_up-all o out out [] (rw (complete-nil, due-nil o) (Appends-nil out)))
+pub nothing-keeps_up : (o : FilterOptions) (given : ℕ) (left out : Bytes)
+    → OfTaken left left (KeepsUp o given out out)
+nothing-keeps_up o given left out =
+    of-taken left left (KeepsUp o given out out) [] (Consumes-nil left)
+    (keeps_up-all o given out out [] (rw (complete-nil, due-nil o) (Appends-nil out)))
 
 pub nothing-short : (left : Bytes) (P : Type 0) (limit : ℕ)
     → OfTaken left left (λ taken. limit < length taken → P)
 nothing-short left P limit =
     of-taken left left (λ taken. limit < length taken → P) [] (Consumes-nil left) (λ long. absurd (omega arith))
 
-pub stop-memory : (o : FilterOptions) (limit r w t : ℕ) (left out : Bytes)
-    → Stopped o OutOfMemory limit r r w w t t left left out out
-stop-memory o limit r w t left out = record {
+pub stop-memory : (o : FilterOptions) (limit r w t given : ℕ) (left out : Bytes)
+    → Stopped o OutOfMemory limit r r w w t t given left left out out
+stop-memory o limit r w t given left out = record {
   faults = (refl, refl);
   amount = (
     omega arith,
     of-taken left left (λ taken. length taken ≤ limit) [] (Consumes-nil left) (omega arith),
   );
   front = nothing-front o left out;
-  keeps_up = nothing-keeps_up o left out;
+  keeps_up = nothing-keeps_up o given left out;
   written = tt;
 }

@@ -2,6 +2,7 @@ pub mod Counted
 pub mod Gathered
 pub mod Outcome
 pub mod Owed
+pub mod Process
 pub mod Ran
 pub mod Refused
 pub mod Statuses

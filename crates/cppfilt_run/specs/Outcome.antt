@@ -19,12 +19,14 @@ OfTaken None left1 P = ⊤
 OfTaken (Some input) None P = ⊥
 OfTaken (Some input) (Some rest) P = (taken : List ℕ) × (input ≡ taken ++ rest) × P taken
 
--- The sink was given what is due for the complete lines among all the bytes but a last block, and maybe more.
-pub record KeepsUp (o : FilterOptions) (out0 out1 : Option (List ℕ)) (taken : List ℕ) : Type 0 where
+-- The sink was given what is due for the complete lines among all the bytes but those that the last read gave, and
+-- maybe more: so what a block completes is written before the next read.
+pub record KeepsUp (o : FilterOptions) (given : ℕ) (out0 out1 : Option (List ℕ)) (taken : List ℕ) : Type 0 where
   pub seen : List ℕ
   pub last : List ℕ
   pub more : List ℕ
   pub parts : taken ≡ seen ++ last
+  pub from_last_read : length last ≤ given
   pub small : length last ≤ block_limit
   pub appends : Appends out0 out1 (due o (complete seen) ++ more)
 
@@ -54,12 +56,13 @@ Written o InputTooLong limit left0 left1 out0 out1 =
     IfSome left0 (λ input. Appends out0 out1 (due o (complete (take limit input))))
 Written o _ limit left0 left1 out0 out1 = ⊤
 
-pub record Stopped (o : FilterOptions) (status : Status) (limit read0 read1 write0 write1 taken0 taken1 : ℕ)
+-- `given` is how many bytes the last read gave.
+pub record Stopped (o : FilterOptions) (status : Status) (limit read0 read1 write0 write1 taken0 taken1 given : ℕ)
     (left0 left1 out0 out1 : Option (List ℕ)) : Type 0 where
   pub faults : Faults status read0 read1 write0 write1
   pub amount : Amount status limit taken0 taken1 left0 left1
   pub front : IfSome left0 (λ input. Begins out0 out1 (due o input))
-  pub keeps_up : OfTaken left0 left1 (KeepsUp o out0 out1)
+  pub keeps_up : OfTaken left0 left1 (KeepsUp o given out0 out1)
   pub written : Written o status limit left0 left1 out0 out1
 
 -- ---- how a run goes on

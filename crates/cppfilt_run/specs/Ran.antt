@@ -21,13 +21,13 @@ abbrev pub Unread : (read0 read1 taken0 taken1 : ℕ) → (left0 left1 : Option 
 Unread r0 r1 t0 t1 left0 left1 = (r1 ≡ r0) × (t1 ≡ t0) × (left1 ≡ left0)
 
 -- how a work was done
-abbrev pub Performed : FilterOptions → Work → Status → (read0 read1 write0 write1 taken0 taken1 : ℕ)
+abbrev pub Performed : FilterOptions → Work → Status → (read0 read1 write0 write1 taken0 taken1 given : ℕ)
     → (left0 left1 out0 out1 : Option (List ℕ)) → Type 0
-Performed o lines s r0 r1 w0 w1 t0 t1 left0 left1 out0 out1 =
-    Stopped o s (2 ^ 40) r0 r1 w0 w1 t0 t1 left0 left1 out0 out1
-Performed o (names given) s r0 r1 w0 w1 t0 t1 left0 left1 out0 out1 =
-    Unread r0 r1 t0 t1 left0 left1 × Finished s w0 w1 out0 out1 (due_names o given)
-Performed o (sample n) s r0 r1 w0 w1 t0 t1 left0 left1 out0 out1 =
+Performed o lines s r0 r1 w0 w1 t0 t1 given left0 left1 out0 out1 =
+    Stopped o s (2 ^ 40) r0 r1 w0 w1 t0 t1 given left0 left1 out0 out1
+Performed o (names all) s r0 r1 w0 w1 t0 t1 given left0 left1 out0 out1 =
+    Unread r0 r1 t0 t1 left0 left1 × Finished s w0 w1 out0 out1 (due_names o all)
+Performed o (sample n) s r0 r1 w0 w1 t0 t1 given left0 left1 out0 out1 =
     Unread r0 r1 t0 t1 left0 left1 × Finished s w0 w1 out0 out1 (summary o n)
 
 -- how help was given
@@ -38,17 +38,17 @@ Helped OutOfMemory w0 w1 = w1 ≡ w0
 Helped _ w0 w1 = ⊥
 
 -- how a run ended, before its message
-abbrev pub Ran : Verdict → Status → (read0 read1 write0 write1 taken0 taken1 : ℕ)
+abbrev pub Ran : Verdict → Status → (read0 read1 write0 write1 taken0 taken1 given : ℕ)
     → (left0 left1 out0 out1 : Option (List ℕ)) → Type 0
-Ran Mistaken s r0 r1 w0 w1 t0 t1 left0 left1 out0 out1 =
+Ran Mistaken s r0 r1 w0 w1 t0 t1 given left0 left1 out0 out1 =
     ((s ≡ Usage) ⊎ (s ≡ OutOfMemory)) × Unread r0 r1 t0 t1 left0 left1 × (w1 ≡ w0) × (out1 ≡ out0)
-Ran AsksHelp s r0 r1 w0 w1 t0 t1 left0 left1 out0 out1 = Helped s w0 w1 × Unread r0 r1 t0 t1 left0 left1
-Ran (Asks o work) s r0 r1 w0 w1 t0 t1 left0 left1 out0 out1 =
-    Performed o work s r0 r1 w0 w1 t0 t1 left0 left1 out0 out1
+Ran AsksHelp s r0 r1 w0 w1 t0 t1 given left0 left1 out0 out1 = Helped s w0 w1 × Unread r0 r1 t0 t1 left0 left1
+Ran (Asks o work) s r0 r1 w0 w1 t0 t1 given left0 left1 out0 out1 =
+    Performed o work s r0 r1 w0 w1 t0 t1 given left0 left1 out0 out1
 
 -- how a run ended, by the status that it answers: there may have been no memory for its message
-pub record Ended (v : Verdict) (status : Status) (read0 read1 write0 write1 taken0 taken1 : ℕ)
+pub record Ended (v : Verdict) (status : Status) (read0 read1 write0 write1 taken0 taken1 given : ℕ)
     (left0 left1 out0 out1 : Option (List ℕ)) : Type 0 where
   pub before : Status
-  pub ran : Ran v before read0 read1 write0 write1 taken0 taken1 left0 left1 out0 out1
+  pub ran : Ran v before read0 read1 write0 write1 taken0 taken1 given left0 left1 out0 out1
   pub kept : (status ≡ before) ⊎ (status ≡ OutOfMemory)

@@ -67,9 +67,10 @@ pub fn filter_lines<R: Source, W: Sink>(
     // Whatever the status is, a front of what is due was written and nothing else,
     ensures front { IfSome (R.left input.old)
         (λ bytes. Begins (W.written output.old) (W.written output.new) (due options.now bytes)) }
-    // and all that is due for the complete lines among the bytes that were taken but a last block of at most 2^16.
+    // and all that is due for the complete lines among the bytes that were taken before the last read, which gave at
+    // most 2^16 bytes: so the lines that a block completes are written before the next read.
     ensures keeps_up { OfTaken (R.left input.old) (R.left input.new)
-        (KeepsUp options.now (W.written output.old) (W.written output.new)) }
+        (KeepsUp options.now (R.last input.new) (W.written output.old) (W.written output.new)) }
     // After a failed read it is just what is due for the complete lines among the bytes that were taken,
     ensures read_fault_written { result ≡ Status.ReadFault → OfTaken (R.left input.old) (R.left input.new)
         (λ taken. Appends (W.written output.old) (W.written output.new) (due options.now (complete taken))) }
@@ -120,7 +121,7 @@ pub(crate) fn filtered<R: Source, W: Sink>(
     output: &mut W,
 ) -> Status
     ensures { Stopped options.now result limit (R.faults input.old) (R.faults input.new)
-        (W.faults output.old) (W.faults output.new) (R.taken input.old) (R.taken input.new)
+        (W.faults output.old) (W.faults output.new) (R.taken input.old) (R.taken input.new) (R.last input.new)
         (R.left input.old) (R.left input.new) (W.written output.old) (W.written output.new) }
 {
     let Ok(mut filter) = LineFilter::new(alloc) else {
@@ -152,7 +153,7 @@ fn filter_blocks<R: Source, W: Sink>(
     requires small { length block.old ≤ block_limit }
     requires fresh { (filter.old.held.items ≡ []) × (filter.old.pending.items ≡ []) }
     ensures { Stopped options.now result limit (R.faults input.old) (R.faults input.new)
-        (W.faults output.old) (W.faults output.new) (R.taken input.old) (R.taken input.new)
+        (W.faults output.old) (W.faults output.new) (R.taken input.old) (R.taken input.new) (R.last input.new)
         (R.left input.old) (R.left input.new) (W.written output.old) (W.written output.new) }
 {
     let mut taken: u64 = 0;

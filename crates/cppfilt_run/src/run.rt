@@ -60,10 +60,11 @@ pub fn run<R: Source, W: Sink, E: Sink>(
     ensures front { (o : FilterOptions) (work : Work) → verdict_on words.items ≡ Asks o work
         → IfSome (input_for work (R.left input.old))
         (λ bytes. Begins (W.written output.old) (W.written output.new) (due_for o work bytes)) }
-    // and for lines all that is due for the complete ones among the bytes that were taken but a last block of at most
-    // 2^16.
+    // and for lines all that is due for the complete ones among the bytes that were taken before the last read, which
+    // gave at most 2^16 bytes: so the lines that a block completes are written before the next read.
     ensures keeps_up { (o : FilterOptions) → verdict_on words.items ≡ Asks o lines
-        → OfTaken (R.left input.old) (R.left input.new) (KeepsUp o (W.written output.old) (W.written output.new)) }
+        → OfTaken (R.left input.old) (R.left input.new)
+        (KeepsUp o (R.last input.new) (W.written output.old) (W.written output.new)) }
     // After a failed read it is just what is due for the complete lines among the bytes that were taken,
     ensures read_fault_written { (o : FilterOptions) → verdict_on words.items ≡ Asks o lines
         → result ≡ Status.ReadFault → OfTaken (R.left input.old) (R.left input.new)
@@ -120,7 +121,7 @@ pub fn run<R: Source, W: Sink, E: Sink>(
 }
 
 /// `run`, with one definition for all that its contract says but for the message.
-fn run_by_words<R: Source, W: Sink, E: Sink>(
+pub(crate) fn run_by_words<R: Source, W: Sink, E: Sink>(
     alloc: Global,
     words: Vec<String>,
     input: &mut R,
@@ -128,7 +129,7 @@ fn run_by_words<R: Source, W: Sink, E: Sink>(
     errors: &mut E,
 ) -> Status
     ensures ended { Ended (verdict_on words.items) result (R.faults input.old) (R.faults input.new)
-        (W.faults output.old) (W.faults output.new) (R.taken input.old) (R.taken input.new)
+        (W.faults output.old) (W.faults output.new) (R.taken input.old) (R.taken input.new) (R.last input.new)
         (R.left input.old) (R.left input.new) (W.written output.old) (W.written output.new) }
     ensures message { NoFault (E.faults errors.old) (E.faults errors.new) → result ≢ Status.OutOfMemory
         → result ≢ Status.Usage → Appends (E.written errors.old) (E.written errors.new) (message_of result) }
@@ -148,7 +149,7 @@ fn run_judged<R: Source, W: Sink, E: Sink>(
     errors: &mut E,
 ) -> Status
     ensures ended { Ended (judgement (map string_bytes all.now)) result (R.faults input.old) (R.faults input.new)
-        (W.faults output.old) (W.faults output.new) (R.taken input.old) (R.taken input.new)
+        (W.faults output.old) (W.faults output.new) (R.taken input.old) (R.taken input.new) (R.last input.new)
         (R.left input.old) (R.left input.new) (W.written output.old) (W.written output.new) }
     ensures message { NoFault (E.faults errors.old) (E.faults errors.new) → result ≢ Status.OutOfMemory
         → result ≢ Status.Usage → Appends (E.written errors.old) (E.written errors.new) (message_of result) }
@@ -178,7 +179,7 @@ fn perform<R: Source, W: Sink>(
     output: &mut W,
 ) -> Status
     ensures { Performed request.now.options (work_of request.now.task) result (R.faults input.old) (R.faults input.new)
-        (W.faults output.old) (W.faults output.new) (R.taken input.old) (R.taken input.new)
+        (W.faults output.old) (W.faults output.new) (R.taken input.old) (R.taken input.new) (R.last input.new)
         (R.left input.old) (R.left input.new) (W.written output.old) (W.written output.new) }
 {
     let options = &request.options;

@@ -4,6 +4,7 @@ ghost use Rattle.std.specs.Prelude.{◌≡◌, drop};
 
 use std::alloc::AllocError;
 use std::env::{self, Env};
+use std::io::ErrorKind;
 
 /// Why the words of a process can't be had.
 #[derive(Clone, Copy, Debug, PartialEq, Eq)]
@@ -24,7 +25,10 @@ impl From<AllocError> for NoWords {
 pub fn words(rt: &(impl Env + AllocGlobal)) -> Result<Vec<String>, NoWords> {
     match env::args(rt) {
         Ok(arguments) => Ok(words_of(arguments.collect(rt.alloc())?)),
-        Err(_) => Err(NoWords::NoText),
+        Err(error) => Err(match error.kind() {
+            ErrorKind::OutOfMemory => NoWords::OutOfMemory,
+            _ => NoWords::NoText,
+        }),
     }
 }
 
