@@ -7,6 +7,8 @@ mod checks;
 #[cfg(test)]
 mod faults;
 #[cfg(test)]
+mod hostile;
+#[cfg(test)]
 mod listener;
 #[cfg(test)]
 mod symbols;
