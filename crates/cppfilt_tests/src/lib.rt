@@ -7,6 +7,8 @@ mod checks;
 #[cfg(test)]
 mod ends;
 #[cfg(test)]
+mod process;
+#[cfg(test)]
 mod runs;
 #[cfg(test)]
 mod words;
