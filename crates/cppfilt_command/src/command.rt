@@ -20,13 +20,15 @@ const AFTER: &str = "\
 A line or NAME of at most 1048576 bytes is taken for a linker name where it
 begins with _Z, __Z, ___Z, ____Z or _GLOBAL_; with --types each is. One that
 can't be read or shown stays as it is. A crafted name may take very long, since
-parts of a name that fail are read again; a lower --parse-limit bounds this.
+parts of a name that fail are read again, and its text may take all memory: for
+names from strangers set a low --parse-limit, and --max-output.
 
 Examples:
   Show a name:
       cppfilt _ZNSt6vectorIiSaIiEE9push_backERKi
-  Show the symbols of an object file:
-      nm -P main.o | cut -d' ' -f1 | cppfilt
+  Show the symbols of an object file, and those that a library exports:
+      nm -P main.o | sed 's/[ @].*//' | cppfilt
+      nm -DP libmain.so | sed 's/[ @].*//' | cppfilt
   Show the functions in a trace of glibc's backtrace_symbols:
       sed 's/.*(\\(.*\\)+.*/\\1/' trace | cppfilt
   Tell why some names have no text:
