@@ -1,0 +1,16 @@
+pub mod Builtins
+pub mod Rows
+pub mod Marks
+pub mod Prefixes
+pub mod Printed
+pub mod Tables
+pub mod Types
+pub mod Names
+pub mod Functions
+pub mod Whole
+pub mod Bytes
+pub mod Known
+pub mod Lists
+pub mod Format
+pub mod Components
+pub mod Theorem
