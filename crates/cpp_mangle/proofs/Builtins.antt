@@ -1,6 +1,6 @@
 -- The builtin types are told apart by their numbers.
 use Rattle.std.specs.Prelude.{◌==◌}
-use Rattle.std.proofs.Common.{◌≡◌, refl, ℕ, ap, ◌∙◌}
+use Rattle.std.proofs.Common.{◌≡◌, refl, ap, ◌∙◌}
 use Rattle.demangle_vocab.specs.Builtins.{number_of_builtin}
 use Rattle.demangle_vocab.specs.declared.builtin.StandardBuiltinType.{StandardBuiltinType}
 use Rattle.demangle_vocab.specs.contracts.builtin.StandardBuiltinType.{the_type}

@@ -4,7 +4,7 @@ use Rattle.std.proofs.Common.{◌≡◌, refl, sym, ap, subst, ◌∙◌, arith,
 use Rattle.std.proofs.lemmas.List.{take_more, map-append, take-append-drop, length-map, length-take-le}
 use Rattle.std.proofs.Math.Seq.{drop-cons, take-append_seam, drop-append_seam}
 use Rattle.cpp_mangle.specs.Declarations.{PlainType, Path, Modifier, class, of, same_type, place, or_place, next_place, mentioned, with, with_all, with_types, fronts, proper}
-use Rattle.cpp_mangle.specs.Declarations.{longest_behind, or_longer, path_bytes, nested_from, types_bytes, type_bytes, params_bytes, seq_id, base_36}
+use Rattle.cpp_mangle.specs.Declarations.{longest_behind, or_longer, path_bytes, nested_from, types_bytes, type_bytes, params_bytes, mangled, seq_id, base_36}
 use Rattle.cpp_mangle.specs.Closed.{Closed}
 use Rattle.cpp_mangle.proofs.Lists.{all_old, new_more, with_behind, with_new, with_old, still_new, mentioned_less, fronts_more, proper_more, closed_type, closed_none}
 
@@ -46,7 +46,7 @@ pub added : (m : Modifier) (t : PlainType) (xs : List PlainType) → place (of m
 added m t xs e =
     with_behind (mentioned t) (of m t) xs
     ∙ with_new (of m t) (with_all (mentioned t) xs)
-      (still_new (of m t) (mentioned t) xs e (mentioned_less _ t (omega arith)))
+    (still_new (of m t) (mentioned t) xs e (mentioned_less _ t (omega arith)))
 
 pub whenever : {T E : Type 0} (r : Result T E) (P : Type 0) → P → OnOk r P
 whenever (Ok v) P p = p
@@ -81,7 +81,7 @@ proper_fronts (p ∷ ps) =
     let g = last_of p ps in
     subst (λ z. fronts (take (length z - 1) z) ≡ proper (fronts z)) (sym g.2)
     (ap fronts (front_of g.0 g.1)
-      ∙ sym (ap proper (fronts_more [] g.0 g.1) ∙ proper_more (fronts g.0) (class (g.0 ++ g.1 ∷ []))))
+    ∙ sym (ap proper (fronts_more [] g.0 g.1) ∙ proper_more (fronts g.0) (class (g.0 ++ g.1 ∷ []))))
 
 pub closed_fronts_of : (parts : Path) → Closed (with_all (proper (fronts parts)) [])
 closed_fronts_of parts =
@@ -101,12 +101,12 @@ one_longer ps q r qs whole xs e =
     let n : length (ps ++ q ∷ []) ≡ suc (length ps) = omega (arith, length-append ps (q ∷ [])) in
     let w : (ps ++ q ∷ []) ++ r ∷ qs ≡ whole = append_assoc ps (q ∷ []) (r ∷ qs) ∙ e in
     let t : take (suc (length ps)) whole ≡ ps ++ q ∷ [] =
-        ap (λ m. take m whole) (sym n) ∙ ap (take (length (ps ++ q ∷ []))) (sym w) ∙ take-append_seam (ps ++ q ∷ []) (r ∷ qs) in
+    ap (λ m. take m whole) (sym n) ∙ ap (take (length (ps ++ q ∷ []))) (sym w) ∙ take-append_seam (ps ++ q ∷ []) (r ∷ qs) in
     let d : drop (suc (length ps)) whole ≡ r ∷ qs =
-        ap (λ m. drop m whole) (sym n) ∙ ap (drop (length (ps ++ q ∷ []))) (sym w) ∙ drop-append_seam (ps ++ q ∷ []) (r ∷ qs) in
+    ap (λ m. drop m whole) (sym n) ∙ ap (drop (length (ps ++ q ∷ []))) (sym w) ∙ drop-append_seam (ps ++ q ∷ []) (r ∷ qs) in
     sym (ap (longest_of whole xs) n
-      ∙ ap (λ z. or_longer (place (class z) xs) (drop (suc (length ps)) whole) (longest_of whole xs (length ps))) t
-      ∙ ap (λ z. or_longer (place (class (ps ++ q ∷ [])) xs) z (longest_of whole xs (length ps))) d)
+    ∙ ap (λ z. or_longer (place (class z) xs) (drop (suc (length ps)) whole) (longest_of whole xs (length ps))) t
+    ∙ ap (λ z. or_longer (place (class (ps ++ q ∷ [])) xs) z (longest_of whole xs (length ps))) d)
 
 longest_from : (ps : Path) (q : List ℕ) (qs whole : Path) (xs : List PlainType) → ps ++ q ∷ qs ≡ whole
     → longest_behind ps (q ∷ qs) xs (longest_of whole xs (length ps)) ≡ longest_of whole xs (length ps + length qs)
@@ -157,6 +157,23 @@ module _ {A : Type 0} (plain : A → PlainType) (ts : List A) (i : ℕ) (d : A) 
       ≡ with_all (mentioned (plain (get_or ts i d))) (with_types (map plain (take i ts)) xs)
   with_step = ap (λ z. with_types z xs) one_more ∙ with_more (map plain (take i ts)) (plain (get_or ts i d)) xs
 
+  pub out_step : (old now new : List ℕ) (ks : List PlainType) (one : A) → one ≡ get_or ts i d
+      → now ≡ old ++ types_bytes (map plain (take i ts)) xs → ks ≡ with_types (map plain (take i ts)) xs
+      → new ≡ now ++ type_bytes (plain one) ks → new ≡ old ++ types_bytes (map plain (take (i + 1) ts)) xs
+  out_step old now new ks one e n k t =
+      t ∙ ap (λ z. z ++ type_bytes (plain one) ks) n
+      ∙ ap (λ z. (old ++ types_bytes (map plain (take i ts)) xs) ++ type_bytes (plain one) z) k
+      ∙ ap (λ z. (old ++ types_bytes (map plain (take i ts)) xs) ++ type_bytes (plain z) (with_types (map plain (take i ts)) xs)) e
+      ∙ append_assoc old (types_bytes (map plain (take i ts)) xs) (type_bytes (plain (get_or ts i d)) (with_types (map plain (take i ts)) xs))
+      ∙ ap (λ z. old ++ z) (sym types_step)
+
+  pub known_step : (ks new : List PlainType) (one : A) → one ≡ get_or ts i d → ks ≡ with_types (map plain (take i ts)) xs
+      → new ≡ with_all (mentioned (plain one)) ks → new ≡ with_types (map plain (take (i + 1) ts)) xs
+  known_step ks new one e k t =
+      t ∙ ap (with_all (mentioned (plain one))) k
+      ∙ ap (λ z. with_all (mentioned (plain z)) (with_types (map plain (take i ts)) xs)) e
+      ∙ sym with_step
+
 pub closed_types : (ts xs : List PlainType) → Closed xs → Closed (with_types ts xs)
 closed_types [] xs c = c
 closed_types (t ∷ ts) xs c = closed_types ts (with_all (mentioned t) xs) (closed_type t xs c).0
@@ -171,3 +188,28 @@ seq_is (suc k) h = ap (base_36 12) (less k)
   where
     less : (k : ℕ) → k ≡ suc k - 1
     less k = omega arith
+
+-- ---- a whole name, from what each part of it has written
+pub fronts_known : (m : ℕ) (parts path : Path) (before new : List PlainType) → m ≡ length parts - 1 → parts ≡ path → before ≡ []
+    → new ≡ with_all (fronts (take m parts)) before → new ≡ with_all (proper (fronts path)) []
+fronts_known m parts path before new e p b h =
+    h ∙ ap (with_all (fronts (take m parts))) b
+    ∙ ap (λ z. with_all (fronts (take z parts)) []) e
+    ∙ ap (λ z. with_all z []) (proper_fronts parts)
+    ∙ ap (λ z. with_all (proper (fronts z)) []) p
+
+module _ (parts path : Path) (ts before behind : List PlainType) (empty marked named fronted : List ℕ) where
+  pub whole_name : parts ≡ path → before ≡ [] → empty ≡ [] → marked ≡ empty ++ 95 ∷ 90 ∷ []
+      → named ≡ marked ++ path_bytes parts before → fronted ≡ named → behind ≡ with_all (proper (fronts path)) []
+      → fronted ++ params_bytes ts behind ≡ mangled (record { path = path; params = ts })
+  unfolding mangled
+  whole_name p b e m n f k =
+      ap (λ z. z ++ params_bytes ts behind) (f ∙ n ∙ ap (λ z. z ++ path_bytes parts before) (m ∙ ap (λ z. z ++ 95 ∷ 90 ∷ []) e))
+      ∙ ap (λ z. 95 ∷ 90 ∷ (path_bytes parts z ++ params_bytes ts behind)) b
+      ∙ ap (λ z. 95 ∷ 90 ∷ (path_bytes z [] ++ params_bytes ts behind)) p
+      ∙ ap (λ z. 95 ∷ 90 ∷ (path_bytes path [] ++ params_bytes ts z)) k
+
+pub same_name : (a b : Path) (ts us : List PlainType) → a ≡ b → ts ≡ us
+    → mangled (record { path = a; params = ts }) ≡ mangled (record { path = b; params = us })
+same_name a b ts us e f =
+    ap (λ z. mangled (record { path = z; params = ts })) e ∙ ap (λ z. mangled (record { path = b; params = z })) f

@@ -1,11 +1,9 @@
 -- The list of entities, as it grows.
-use Rattle.std.specs.Prelude.{◌<◌, ◌==◌, Option, Some, None, slice_get, bytes_eq, is_some}
+use Rattle.std.specs.Prelude.{◌<◌, Option, Some, None, slice_get, is_some}
 use Rattle.std.proofs.Common.{◌≡◌, refl, sym, ap, subst, ◌∙◌, arith, ℕ, suc, ◌+◌, Bool, true, false, List, [], ◌∷◌, ◌++◌, length, length-append, append-nil, append_assoc}
-use Rattle.std.proofs.lemmas.Bool.{eqb-true}
-use Rattle.demangle_grammar.proofs.Truth.{both_true}
 use Rattle.cpp_mangle.specs.Closed.{has, AllIn, Closed}
 use Rattle.cpp_mangle.specs.Same.{types_are, types_same}
-use Rattle.cpp_mangle.specs.Declarations.{PlainType, Path, Modifier, builtin, class, of, pointer, lvalue, rvalue, const, modifier_code, same_parts, same_type, fronts_behind, fronts, proper, mentioned, place, or_place, next_place, with, unless_there, with_all, longest_behind, or_longer}
+use Rattle.cpp_mangle.specs.Declarations.{PlainType, Path, builtin, class, of, same_type, fronts_behind, fronts, proper, mentioned, place, or_place, next_place, with, unless_there, with_all, longest_behind, or_longer}
 
 -- ---- places
 some_is : {A : Type 0} (a b : A) → Some a ≡ Some b → a ≡ b

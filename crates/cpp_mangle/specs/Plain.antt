@@ -1,5 +1,5 @@
 -- What a declared type is as plain data, and a declaration, an entity, what was written.
-use Rattle.std.specs.Prelude.{ℕ, List, map}
+use Rattle.std.specs.Prelude.{List, map}
 use Rattle.demangle_vocab.specs.Builtins.{number_of_builtin}
 use Rattle.cpp_mangle.specs.Declarations.{Modifier, pointer, lvalue, rvalue, const}
 use Rattle.cpp_mangle.specs.Declarations.{PlainType, builtin, class, of, PlainDecl, Path}

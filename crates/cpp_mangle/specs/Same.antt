@@ -1,7 +1,7 @@
 -- The equality of paths and of plain types as a test decides that they are the same.
 use Rattle.std.specs.Prelude.{◌==◌, bytes_eq}
 use Rattle.std.specs.Cmp.{IsEquivalence}
-use Rattle.std.proofs.Common.{◌≡◌, refl, sym, ap, subst, ◌∙◌, arith, ℕ, Bool, true, false, List, [], ◌∷◌}
+use Rattle.std.proofs.Common.{◌≡◌, refl, ap, subst, arith, ℕ, Bool, true, false, List, [], ◌∷◌}
 use Rattle.std.proofs.lemmas.Bool.{eqb-true}
 use Rattle.demangle_grammar.proofs.Truth.{both_true}
 use Rattle.cpp_mangle.specs.Declarations.{PlainType, Path, Modifier, builtin, class, of, pointer, lvalue, rvalue, const}

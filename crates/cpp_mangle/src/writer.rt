@@ -235,7 +235,11 @@ impl<'a> Writer<'a> {
     }
 
     /// The name of a function with these parameters.
-    pub(crate) fn put_function(&mut self, path: &'a Path, params: &'a [DeclType]) -> Result<(), AllocError>
+    pub(crate) fn put_function(
+        &mut self,
+        path: &'a Path,
+        params: &'a [DeclType],
+    ) -> Result<(), AllocError>
         requires out { self.old.out.items ≡ [] }
         requires known { known self.old ≡ [] }
         ensures { OnOk result (self.new.out.items ≡ mangled (declared path.now params.now)) }

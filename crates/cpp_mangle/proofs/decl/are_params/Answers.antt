@@ -13,5 +13,5 @@ pub returns-then-params-le-MOST_PARAMS : goal.returns-then-params-le-MOST_PARAMS
 returns-then-params-le-MOST_PARAMS c =
     let ps = c.args.params.now in
     let e : nat_le (length (map plain_type ps)) 64 ≡ true =
-        rw (length-map ps plain_type) (le_true (length ps) 64 c.if-params-le-MOST_PARAMS.true) in
+    rw (length-map ps plain_type) (le_true (length ps) 64 c.if-params-le-MOST_PARAMS.true) in
     rw e (c.each_is_param.ensures ∙ sym (list_all-map is_param plain_type ps))

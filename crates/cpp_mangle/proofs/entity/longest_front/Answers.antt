@@ -13,7 +13,7 @@ returns-in-Some c =
     let n : ℕ = c.loop-end.end - 1 in
     let e : place (class (take n parts)) xs ≡ Some c.in-Some.found = sym c.in-Some.ensures in
     let t : take (length parts - n) (drop n parts) ≡ drop n parts =
-        take_all (length parts - n) (drop n parts) (omega (arith, length-drop n parts)) in
+    take_all (length parts - n) (drop n parts) (omega (arith, length-drop n parts)) in
     ap (λ z. Some (c.in-Some.found, z)) t
     ∙ sym (longest_all parts xs ∙ c.loop-end.invariant ∙ longest_here parts xs c.in-Some.found n (omega arith) e)
 

@@ -9,7 +9,7 @@ returns-then-is_same c =
     let d = c.index-known-i.result in
     let e : same_type (plain_entity c.args.entity.now) (plain_entity (get_or c.args.known.now c.loop-i.i d)) ≡ true = cc in
     sym (found_at plain_entity (plain_entity c.args.entity.now) c.args.known.now c.loop-i.i d c.loop-i-test.true
-      c.loop-i.invariant e)
+    c.loop-i.invariant e)
 
 pub loop-i-preserved : goal.loop-i-preserved
 loop-i-preserved c =

@@ -1,8 +1,4 @@
-use Rattle.std.proofs.Common.{◌≡◌, ap, ◌∙◌, ◌==◌}
-use Rattle.demangle_vocab.specs.Builtins.{number_of_builtin}
-use Rattle.demangle_vocab.specs.contracts.builtin.StandardBuiltinType.{the_type}
-use Rattle.cpp_mangle.specs.Declarations.{same_type}
-use Rattle.cpp_mangle.specs.Plain.{plain_type}
+use Rattle.std.proofs.Common.{◌∙◌}
 use Rattle.cpp_mangle.proofs.Builtins.{numbers_tell}
 use Rattle.cpp_mangle.proofs.decl_type.DeclTypePartialEq.+eq.Goals as goal
 

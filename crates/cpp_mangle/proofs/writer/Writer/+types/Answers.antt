@@ -10,7 +10,7 @@ pub put_modified-returns-in-Some-clause-known : goal.put_modified-returns-in-Som
 put_modified-returns-in-Some-clause-known t c =
     let x = of (plain_modifier c.args.modifier) (plain_type c.args.inner.now) in
     let e : place x (known c.args.self.now) ≡ Some c.in-Some.place =
-        rw (← c.deref.ensures.value) (sym c.in-Some.ensures) in
+    rw (← c.deref.ensures.value) (sym c.in-Some.ensures) in
     whenever c.put_reference.result _ (sym (again x (known c.args.self.now) c.in-Some.place c.requires e))
 
 pub put_modified-returns-in_ok-push-in-None-2-clause-known : goal.put_modified-returns-in_ok-push-in-None-2-clause-known

@@ -1,4 +1,4 @@
-use Rattle.std.proofs.Common.{◌≡◌, arith, ap, sym, ◌∙◌, [], ◌+◌, take, rules}
+use Rattle.std.proofs.Common.{arith, ap, sym, ◌∙◌, [], ◌+◌, take, rules}
 use Rattle.cpp_mangle.specs.Declarations.{class, with}
 use Rattle.cpp_mangle.specs.Plain.{known}
 use Rattle.cpp_mangle.proofs.Known.{front_more}
