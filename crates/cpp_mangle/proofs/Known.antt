@@ -8,17 +8,17 @@ use Rattle.cpp_mangle.specs.Declarations.{longest_behind, or_longer, path_bytes,
 use Rattle.cpp_mangle.specs.Closed.{Closed}
 use Rattle.cpp_mangle.proofs.Lists.{all_old, new_more, with_behind, with_new, with_old, still_new, mentioned_less, fronts_more, proper_more, closed_type, closed_none}
 
-behind_none : (xs ys : List PlainType) (x y z : PlainType) (more : place x xs ≡ None → place x (xs ++ y ∷ ys) ≡ Some (length xs))
+behind_none : (xs ys : List PlainType) (x y : PlainType) (more : place x xs ≡ None → place x (xs ++ y ∷ ys) ≡ Some (length xs))
     (b : Bool) (o : Option ℕ) → place x xs ≡ o → or_place b o ≡ None → or_place b (place x (xs ++ y ∷ ys)) ≡ Some (suc (length xs))
-behind_none xs ys x y z more true o p g = absurd (cc)
-behind_none xs ys x y z more false None p g = ap next_place (more p)
-behind_none xs ys x y z more false (Some k) p g = absurd (cc)
+behind_none xs ys x y more true o p g = absurd (cc)
+behind_none xs ys x y more false None p g = ap next_place (more p)
+behind_none xs ys x y more false (Some k) p g = absurd (cc)
 
 found_behind : (x y : PlainType) (xs ys : List PlainType) → place x xs ≡ None → same_type x y ≡ true
     → place x (xs ++ y ∷ ys) ≡ Some (length xs)
 found_behind x y [] ys h e = rw e refl
 found_behind x y (z ∷ zs) ys h e =
-    behind_none zs ys x y z (λ p. found_behind x y zs ys p e) (same_type x z) (place x zs) refl h
+    behind_none zs ys x y (λ p. found_behind x y zs ys p e) (same_type x z) (place x zs) refl h
 
 module _ {A : Type 0} (plain : A → PlainType) (x : PlainType) (xs : List A) (i : ℕ) (d : A) (l : i < length xs) where
   pub none_more : place x (map plain (take i xs)) ≡ None → same_type x (plain (get_or xs i d)) ≡ false
@@ -60,12 +60,6 @@ front_more parts i d xs l =
     ∙ ap (λ z. with_all z xs) (fronts_more [] (take i parts) (get_or parts i d))
     ∙ with_behind (fronts (take i parts)) (class (take i parts ++ get_or parts i d ∷ [])) xs
     ∙ ap (λ z. with (class z) (with_all (fronts (take i parts)) xs)) (sym (take_more parts i d l))
-
-pub new_front : (x : PlainType) (xs : List PlainType) → place x xs ≡ None → with x xs ≡ xs ++ x ∷ []
-new_front x xs e = with_new x xs e
-
-pub old_front : (x : PlainType) (xs : List PlainType) (k : ℕ) → place x xs ≡ Some k → with x xs ≡ xs
-old_front x xs k e = with_old x xs (rw e refl)
 
 front_of : (acc : Path) (q : List ℕ) → take (length (acc ++ q ∷ []) - 1) (acc ++ q ∷ []) ≡ acc
 front_of acc q = ap (λ n. take n (acc ++ q ∷ [])) (omega (arith, length-append acc (q ∷ []))) ∙ take-append_seam acc (q ∷ [])

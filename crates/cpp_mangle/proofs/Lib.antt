@@ -1,16 +1,17 @@
-pub mod Builtins
-pub mod Rows
-pub mod Marks
-pub mod Prefixes
-pub mod Printed
-pub mod Tables
-pub mod Types
-pub mod Names
-pub mod Functions
-pub mod Whole
-pub mod Bytes
-pub mod Known
-pub mod Lists
-pub mod Format
-pub mod Components
-pub mod Theorem
+mod Builtins
+mod Rows
+mod Marks
+mod Prefixes
+mod Printed
+mod Tables
+mod Types
+mod Names
+mod Functions
+mod Whole
+mod Bytes
+mod Known
+mod Lists
+mod Format
+mod Components
+mod Theorem
+mod Samples

@@ -61,7 +61,8 @@ types_same (class a) = parts_same a
 types_same (of m t) = rw (modifiers_same m, types_same t) refl
 
 -- ---- a test that decides is an equivalence
-module _ {A : Type 0} (test : A → A → Bool) (are : (x y : A) → test x y ≡ true → x ≡ y) (same : (x : A) → test x x ≡ true) where
+module _ {A : Type 0} (test : A → A → Bool) (are : (x y : A) → test x y ≡ true → x ≡ y)
+    (same : (x : A) → test x x ≡ true) where
   symmetric : (x y : A) → test x y ≡ test y x
   symmetric x y = by (test x y) refl (test y x) refl
     where

@@ -55,8 +55,8 @@ fn are_params(params: &[DeclType]) -> bool
 impl Decl {
     /// The declaration of the function with this path and parameters of these types.
     ///
-    /// `BadType` comes exactly where there are more than 64 parameters, one has more than 16 modifiers, a `Const` stands
-    /// directly on a `Const` or on a reference, a reference isn't outermost, or a parameter is `void` itself.
+    /// `BadType` comes exactly where there are more than 64 parameters, one has more than 16 modifiers, a `Const`
+    /// stands directly on a `Const` or on a reference, a reference isn't outermost, or a parameter is `void` itself.
     pub fn new(path: Path, params: Vec<DeclType>) -> Result<Decl, MangleFault>
         ensures made { IfOk result (λ decl. decl ≡ declared path params.items) }
         ensures refused { IsErrOf result MangleFault.BadType ↔ (is_decl (declared path params.items) ≡ false) }

@@ -44,8 +44,8 @@ impl Modifier {
     }
 }
 
-/// What a name refers to again where it repeats: a front of a path, or a modified type by its outermost modifier and the
-/// type that it stands on.
+/// What a name refers to again where it repeats: a front of a path, or a modified type by its outermost modifier and
+/// the type that this stands on.
 #[derive(Clone, Copy)]
 pub(crate) enum Entity<'a> {
     Front(&'a [Ident]),

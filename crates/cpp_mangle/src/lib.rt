@@ -1,5 +1,5 @@
-//! Linker names of functions (Itanium ABI) from their declarations: paths, builtin and class types, pointers, references
-//! and `const`.
+//! Linker names of functions (Itanium ABI) from their declarations: paths, builtin and class types, pointers,
+//! references and `const`.
 #![tactic(auto)]
 
 mod decl;

@@ -2,9 +2,9 @@
 
 ghost use Rattle.std.specs.Prelude.{◌≡◌, ◌++◌, ◌≤◌, ◌+◌, ◌^◌, ◌<◌, [], true, None, OnOk, length, take, map};
 ghost use Rattle.std.specs.Fmt.{digit_glyph};
-ghost use Rattle.cpp_mangle.specs.Declarations.{base_36, seq_id, reference, source_name, source_names, path_bytes, fronts};
+ghost use Rattle.cpp_mangle.specs.Declarations.{base_36, seq_id, reference, source_name, source_names, path_bytes};
 ghost use Rattle.cpp_mangle.specs.Declarations.{with, with_all, mentioned, type_bytes, types_bytes, params_bytes};
-ghost use Rattle.cpp_mangle.specs.Declarations.{of, class, mangled, nested_from, longest_behind};
+ghost use Rattle.cpp_mangle.specs.Declarations.{of, class, fronts, mangled, nested_from, longest_behind};
 ghost use Rattle.cpp_mangle.specs.Closed.{Closed};
 ghost use Rattle.cpp_mangle.specs.Plain.{known, plain_entity, plain_type, plain_modifier, declared};
 
