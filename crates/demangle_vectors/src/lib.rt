@@ -9,6 +9,8 @@ mod faults;
 #[cfg(test)]
 mod listener;
 #[cfg(test)]
+mod mangled;
+#[cfg(test)]
 mod symbols;
 #[cfg(test)]
 mod texts;
