@@ -11,6 +11,8 @@ mod hostile;
 #[cfg(test)]
 mod listener;
 #[cfg(test)]
+mod mangled;
+#[cfg(test)]
 mod symbols;
 #[cfg(test)]
 mod texts;

@@ -1,0 +1,17 @@
+mod Builtins
+mod Rows
+mod Marks
+mod Prefixes
+mod Printed
+mod Tables
+mod Types
+mod Names
+mod Functions
+mod Whole
+mod Bytes
+mod Known
+mod Lists
+mod Format
+mod Components
+mod Theorem
+mod Samples
