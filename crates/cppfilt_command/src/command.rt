@@ -2,7 +2,8 @@
 
 ghost use Rattle.std.specs.Prelude.{◌≡◌, IfOk, false};
 ghost use Rattle.clap.specs.Words.{app_of, rule_of};
-ghost use Rattle.cppfilt_command.specs.Command.{command, flag, names, number, with_flags, with_numbers};
+ghost use Rattle.cppfilt_command.specs.Command.{command, flag, names, number, with_flags, with_limits};
+ghost use Rattle.cppfilt_command.specs.Command.{with_numbers, with_printing_flags};
 
 use clap::{Arg, ArgAction, Command};
 use std::alloc::{AllocError, Global};
@@ -13,7 +14,7 @@ Show C++ linker names as the names in the source.
 
 Standard input is copied to standard output, line by line. A line that consists
 of one linker name of the Itanium C++ ABI, as GCC and Clang make them, becomes
-its text. Any other line stays as it is.";
+its text. Any other line stays as it is; for names inside lines use cppfilt_text.";
 
 /// What stands below the options.
 const AFTER: &str = "\
@@ -71,9 +72,12 @@ fn names<'a>(alloc: Global) -> Arg<'a>
         .help("Show these names, one a line, and leave standard input unread")
 }
 
-/// A command with the flags.
-fn with_flags<'a>(alloc: Global, command: Command<'a>) -> Result<Command<'a>, AllocError>
-    ensures { IfOk result (λ c. app_of c ≡ with_flags (app_of command.entry)) }
+/// A command with the flags on how names are printed.
+pub(crate) fn with_printing_flags<'a>(
+    alloc: Global,
+    command: Command<'a>,
+) -> Result<Command<'a>, AllocError>
+    ensures { IfOk result (λ c. app_of c ≡ with_printing_flags (app_of command.entry)) }
 {
     command
         .arg(flag(
@@ -93,7 +97,14 @@ fn with_flags<'a>(alloc: Global, command: Command<'a>) -> Result<Command<'a>, Al
             "hide-literal-types",
             'l',
             "Leave out the types of literals",
-        ))?
+        ))
+}
+
+/// A command with all flags.
+fn with_flags<'a>(alloc: Global, command: Command<'a>) -> Result<Command<'a>, AllocError>
+    ensures { IfOk result (λ c. app_of c ≡ with_flags (app_of command.entry)) }
+{
+    with_printing_flags(alloc, command)?
         .arg(flag(
             alloc,
             "types",
@@ -109,9 +120,12 @@ fn with_flags<'a>(alloc: Global, command: Command<'a>) -> Result<Command<'a>, Al
         ))
 }
 
-/// A command with the options that have numbers.
-fn with_numbers<'a>(alloc: Global, command: Command<'a>) -> Result<Command<'a>, AllocError>
-    ensures { IfOk result (λ c. app_of c ≡ with_numbers (app_of command.entry)) }
+/// A command with the options that bound names and their texts.
+pub(crate) fn with_limits<'a>(
+    alloc: Global,
+    command: Command<'a>,
+) -> Result<Command<'a>, AllocError>
+    ensures { IfOk result (λ c. app_of c ≡ with_limits (app_of command.entry)) }
 {
     command
         .arg(number(
@@ -133,14 +147,20 @@ fn with_numbers<'a>(alloc: Global, command: Command<'a>) -> Result<Command<'a>, 
             "max-output",
             "Bytes its text may have, 1 to 1073741824\n\
              [default: any number]",
-        ))?
-        .arg(number(
-            alloc,
-            "sample",
-            "Self-test: demangle N made-up names, 1 to 100000,\n\
-             and write `names N read R bytes B`: R of them have\n\
-             a text, and these texts have B bytes together",
         ))
+}
+
+/// A command with all options that have numbers.
+fn with_numbers<'a>(alloc: Global, command: Command<'a>) -> Result<Command<'a>, AllocError>
+    ensures { IfOk result (λ c. app_of c ≡ with_numbers (app_of command.entry)) }
+{
+    with_limits(alloc, command)?.arg(number(
+        alloc,
+        "sample",
+        "Self-test: demangle N made-up names, 1 to 100000,\n\
+         and write `names N read R bytes B`: R of them have\n\
+         a text, and these texts have B bytes together",
+    ))
 }
 
 /// The command.
