@@ -14,7 +14,7 @@ Show C++ linker names as the names in the source.
 
 Standard input is copied to standard output, line by line. A line that consists
 of one linker name of the Itanium C++ ABI, as GCC and Clang make them, becomes
-its text. Any other line stays as it is; for names inside lines use cppfilt_text.";
+its text. Any other line stays as it is.";
 
 /// What stands below the options.
 const AFTER: &str = "\
@@ -28,8 +28,8 @@ Examples:
       cppfilt _ZNSt6vectorIiSaIiEE9push_backERKi
   Show the symbols of an object file:
       nm -P main.o | cut -d' ' -f1 | cppfilt
-  Show the functions in a trace of glibc's backtrace_symbols:
-      sed 's/.*(\\(.*\\)+.*/\\1/' trace | cppfilt
+  Show the names inside the lines of a trace, a log, a disassembly:
+      cppfilt_text < trace
   Tell why some names have no text:
       cppfilt --why < names.txt
 
@@ -132,15 +132,15 @@ pub(crate) fn with_limits<'a>(
             alloc,
             "parse-limit",
             "Levels of nesting a name may have, 1 to 1024\n\
-             [default: 96]; raise it where --why says \"too much\n\
-             recursion when demangling\"",
+             [default: 96]; raise it where cppfilt --why says\n\
+             \"too much recursion when demangling\"",
         ))?
         .arg(number(
             alloc,
             "print-limit",
             "Levels of nesting its text may have, 1 to 1024\n\
-             [default: 128]; raise it where --why says \"too much\n\
-             recursion when printing\"",
+             [default: 128]; raise it where cppfilt --why says\n\
+             \"too much recursion when printing\"",
         ))?
         .arg(number(
             alloc,
