@@ -11,7 +11,7 @@ use Rattle.cppfilt_lines.specs.Named.{IsNamedWhenShown}
 use Rattle.cppfilt_lines.specs.Work.{Work, names}
 use Rattle.cppfilt_lines.specs.declared.options.FilterOptions.{FilterOptions}
 use Rattle.cppfilt_lines.proofs.NamedLaws.{each_named}
-use Rattle.cppfilt_run.specs.Outcome.{Amount, Faults, OfTaken}
+use Rattle.cppfilt_run.specs.Outcome.{OfTaken}
 use Rattle.cppfilt_run.specs.Ran.{Helped, Unread}
 use Rattle.cppfilt_run.specs.declared.status.Status.{Status}
 use Rattle.cppfilt_run.specs.declared.status.Status.TheVariants.{Done, Help, Usage, ReadFault, WriteFault}
@@ -19,7 +19,7 @@ use Rattle.cppfilt_run.specs.declared.status.Status.TheVariants.{InputTooLong, O
 use Rattle.cppfilt_run.proofs.RanLaws.{Quiet, Reported, at_most-by, helped-as, helped-quiet, long-by, long-bytes-by}
 use Rattle.cppfilt_run.proofs.RanLaws.{long-bytes-told-by, long-told-by, read-by, read-told-by, usage-quiet, write-by}
 use Rattle.cppfilt_run.proofs.RanLaws.{write-told-by}
-use Rattle.cppfilt_run.proofs.ReportLaws.{run-complete, run-help, run-refused, run-usage}
+use Rattle.cppfilt_run.proofs.ReportLaws.{Counts, run-complete, run-help, run-refused, run-usage}
 use Rattle.demangle_printing.specs.Outcome.{Options}
 use Rattle.cppfilt_text_run.specs.Outcome.{KeepsUp, Settles, Stopped, Written}
 use Rattle.cppfilt_text_run.specs.Ran.{Ended, Ran, reads}
@@ -34,19 +34,23 @@ pub runs-named : (o : FilterOptions) (bytes : Option (List ℕ))
 runs-named o None = tt
 runs-named o (Some b) = each_named o (names (map name_of (pieces b))) (Some b)
 
+counts : {s : Status} {p : ℕ} {o : Options} {limit r0 r w0 w t0 t : ℕ} {left0 left out0 out : Option (List ℕ)}
+    → Stopped p o s limit r0 r w0 w t0 t left0 left out0 out → Counts s limit r0 r w0 w t0 t left0 left
+counts st = record { faults = st.faults; amount = st.amount }
+
 -- ---- a run
 module _ (s res : Status) (r0 r w0 w t0 t : ℕ) (left0 left out0 out : Option (List ℕ)) (kept : Reported s res) where
   abbrev HasRun : Verdict → Type 0
   HasRun v = Ran v s r0 r w0 w t0 t left0 left out0 out
 
   abbrev Sorted : Type 0
-  Sorted = (Faults s r0 r w0 w × Amount s (2 ^ 40) t0 t left0 left) ⊎ (Unread r0 r t0 t left0 left × Quiet s w0 w)
+  Sorted = Counts s (2 ^ 40) r0 r w0 w t0 t left0 left ⊎ (Unread r0 r t0 t left0 left × Quiet s w0 w)
 
   -- the input was filtered, or it wasn't read
   sorted : (v : Verdict) → HasRun v → Sorted
   sorted Mistaken p = inr (p.1, usage-quiet s w0 w p.0 p.2)
   sorted AsksHelp p = inr (p.1, helped-quiet s w0 w p.0)
-  sorted (Asks o work) p = inl (p.faults, p.amount)
+  sorted (Asks o work) p = inl (counts p)
 
   -- a status other than want of memory is that before the message
   as-before : (other : Status) → (other ≡ OutOfMemory → ⊥) → res ≡ other → s ≡ other
@@ -61,7 +65,7 @@ module _ (s res : Status) (r0 r w0 w t0 t : ℕ) (left0 left out0 out : Option (
   ran-usage : (v : Verdict) → HasRun v → res ≡ Usage → v ≡ Mistaken
   ran-usage Mistaken p e = refl
   ran-usage AsksHelp p e = absurd (subst (λ (x : Status). Helped x w0 w) (as-before Usage (λ k. cc) e) p.0)
-  ran-usage (Asks o work) p e = absurd (run-usage s res p.faults kept e)
+  ran-usage (Asks o work) p e = absurd (run-usage s res (counts p) kept e)
 
   ran-usage-told : (v : Verdict) → HasRun v → v ≡ Mistaken
       → ((res ≡ Usage) ⊎ (res ≡ OutOfMemory)) × (out ≡ out0) × (w ≡ w0)
@@ -81,7 +85,7 @@ module _ (s res : Status) (r0 r w0 w t0 t : ℕ) (left0 left out0 out : Option (
       let is = as-before Help (λ k. cc) e in
       absurd (elim p.0 [ inl k ↦ cc | inr k ↦ cc ])
   ran-help AsksHelp p e = refl
-  ran-help (Asks o work) p e = absurd (run-help s res p.faults kept e)
+  ran-help (Asks o work) p e = absurd (run-help s res (counts p) kept e)
 
   ran-help-told : (v : Verdict) → HasRun v → v ≡ AsksHelp
       → (res ≡ Help) ⊎ ((res ≡ WriteFault) ⊎ (res ≡ OutOfMemory))
@@ -112,8 +116,7 @@ stopped-end _ st e = absurd cc
 -- ---- what holds at the end of a run
 module _ {v : Verdict} {res : Status} {r0 r w0 w t0 t : ℕ} {left0 left out0 out : Option (List ℕ)}
     (x : Ended v res r0 r w0 w t0 t left0 left out0 out) where
-  by : (Faults x.before r0 r w0 w × Amount x.before (2 ^ 40) t0 t left0 left)
-      ⊎ (Unread r0 r t0 t left0 left × Quiet x.before w0 w)
+  by : Counts x.before (2 ^ 40) r0 r w0 w t0 t left0 left ⊎ (Unread r0 r t0 t left0 left × Quiet x.before w0 w)
   by = sorted x.before res r0 r w0 w t0 t left0 left out0 out x.kept v x.ran
 
   at : (o : FilterOptions) (work : Work) → v ≡ Asks o work
@@ -148,13 +151,13 @@ module _ {v : Verdict} {res : Status} {r0 r w0 w t0 t : ℕ} {left0 left out0 ou
       → IfSome left0 (λ bytes. length bytes ≤ 2 ^ 40 → (res ≡ Done) ⊎ (res ≡ OutOfMemory))
   ended-complete o work is read write =
       let st = at o work is in
-      run-complete x.before res st.faults st.amount x.kept read write
+      run-complete x.before res (counts st) x.kept read write
 
   pub ended-refused : (o : FilterOptions) (work : Work) → v ≡ Asks o work → NoFault r0 r → NoFault w0 w
       → IfSome left0 (λ bytes. 2 ^ 40 < length bytes → (res ≡ InputTooLong) ⊎ (res ≡ OutOfMemory))
   ended-refused o work is read write =
       let st = at o work is in
-      run-refused x.before res st.faults st.amount (stopped-end x.before st) x.kept read write
+      run-refused x.before res (counts st) (stopped-end x.before st) x.kept read write
 
   pub ended-usage : res ≡ Usage → v ≡ Mistaken
   ended-usage = ran-usage x.before res r0 r w0 w t0 t left0 left out0 out x.kept v x.ran

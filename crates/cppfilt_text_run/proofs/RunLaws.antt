@@ -419,14 +419,14 @@ taking-more {before} {now} {after} {w0} {w} {w'} {out0} {out} {out'} {gathered0}
     }
 
 -- a piece was refused
-pub taking-refused : {before now : Stream} {w0 w w' : ℕ} {out0 out out' : Bytes}
-    {gathered0 gathered block left : List ℕ} (e : SinkFault) (piece left' : List ℕ) → left ≡ piece ++ left'
+pub taking-refused : {before now : Stream} {w0 w : ℕ} {out0 out out' : Bytes}
+    {gathered0 gathered block left : List ℕ} (w' : ℕ) (e : SinkFault) (piece left' : List ℕ) → left ≡ piece ++ left'
     → Taking before now w0 w out0 out gathered0 gathered block left
     → ((more : List ℕ) → SinkCause {T = Unit {0}} w w' (Err e) × Begins out out' (gathered ++ rest now (piece ++ more)))
     → (more : List ℕ) → SinkCause {T = Unit {0}} w0 w' (Err e)
     × Begins out0 out' (gathered0 ++ rest before (block ++ more))
-taking-refused {before} {now} {w0} {w} {w'} {out0} {out} {out'} {gathered0} {gathered} {block} {left}
-    e piece left' is t gave more =
+taking-refused {before} {now} {w0} {w} {out0} {out} {out'} {gathered0} {gathered} {block} {left}
+    w' e piece left' is t gave more =
     let given : Begins out out' (gathered ++ rest now (left ++ more)) =
     rw (is, append_assoc piece left' more) (gave (left' ++ more)).1 in (
       cause-then w0 w w' e t.writes (gave []).0,
