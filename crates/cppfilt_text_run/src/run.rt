@@ -146,7 +146,8 @@ fn run_judged<R: Source, W: Sink, E: Sink>(
     output: &mut W,
     errors: &mut E,
 ) -> Status
-    ensures ended { Ended (judgement_by text_command (map string_bytes all.now)) result (R.faults input.old) (R.faults input.new)
+    ensures ended { Ended (judgement_by text_command (map string_bytes all.now)) result
+        (R.faults input.old) (R.faults input.new)
         (W.faults output.old) (W.faults output.new) (R.taken input.old) (R.taken input.new)
         (R.left input.old) (R.left input.new) (W.written output.old) (W.written output.new) }
     ensures message { NoFault (E.faults errors.old) (E.faults errors.new) → result ≢ Status.OutOfMemory

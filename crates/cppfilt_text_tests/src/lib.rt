@@ -1,5 +1,5 @@
-//! Tests of names inside texts: streams that are fed a text in two pieces, and runs of the program `cppfilt_text` from end
-//! to end.
+//! Tests of names inside texts: streams that are fed a text in two pieces, and runs of the program `cppfilt_text` from
+//! end to end.
 #![tactic(auto)]
 
 #[cfg(test)]
