@@ -2,7 +2,7 @@
 # keep on the machine what passed, and a later run proves only what changed; others begin anew each time.
 .PHONY: cppfilt test
 
-# The gate, which proves and builds the program, and leaves it here as ./cppfilt.
+# The gate, which proves and builds the programs, and leaves them here as ./cppfilt and ./cppfilt_text.
 cppfilt:
 	@log=$$(mktemp); \
 	echo "proving and building cppfilt: 45 minutes to three hours the first time; how far it is stands in $$log"; \
@@ -12,7 +12,8 @@ cppfilt:
 	    cat "$$log"; rm -f "$$log"; exit 1; \
 	fi
 	@cp crates/cppfilt/out/cppfilt cppfilt
-	@echo "built ./cppfilt"
+	@cp crates/cppfilt_text/out/cppfilt_text cppfilt_text
+	@echo "built ./cppfilt and ./cppfilt_text"
 
 # The gate: every proof, the must-fail edits, the tests and the program.
 test:

@@ -7,7 +7,7 @@ use Rattle.std.specs.Option.{option_map_or}
 use Rattle.std.specs.Str.{bytes_eq}
 use Rattle.clap.specs.Faults.{fault_of}
 use Rattle.clap.specs.Kinds.{Kinds}
-use Rattle.clap.specs.Simple.{matches_of}
+use Rattle.clap.specs.Simple.{App, matches_of}
 use Rattle.clap.specs.Walk.{Row, all_of, first_of}
 use Rattle.clap.specs.declared.error.kind.ErrorKind.TheVariants.{DisplayHelp}
 use Rattle.demangle_text.specs.Kind.{Kind}
@@ -16,7 +16,7 @@ use Rattle.demangle_text.specs.Spot.{Spot}
 use Rattle.demangle_printing.specs.Outcome.{Options}
 use Rattle.cppfilt_lines.specs.Work.{Work, lines, names, sample}
 use Rattle.cppfilt_lines.specs.declared.options.FilterOptions.{FilterOptions}
-use Rattle.cppfilt_command.specs.Command.{command}
+use Rattle.cppfilt_command.specs.Command.{command, text_command}
 
 -- ---- numbers
 -- nothing is left behind it, and it lies from 1 to `most`
@@ -101,13 +101,20 @@ judged [] rows = if has_good_numbers rows then Asks (options_in rows) (work_in r
 judged (DisplayHelp ∷ more) rows = AsksHelp
 judged (kind ∷ more) rows = Mistaken
 
--- what all the words say, of which the first is the name of the program
-unfoldable pub judgement : List (List ℕ) → Verdict
-judgement all = judged (fault_of command all) (matches_of command all)
+-- what all the words say to a command, of which the first is the name of the program
+unfoldable pub judgement_by : App → List (List ℕ) → Verdict
+judgement_by app all = judged (fault_of app all) (matches_of app all)
 
 -- the command is given its name, and then the words
 abbrev pub verdict : List (List ℕ) → Verdict
-verdict words = judgement (codes "cppfilt" ∷ words)
+verdict words = judgement_by command (codes "cppfilt" ∷ words)
 
 abbrev pub verdict_on : List (String Global) → Verdict
 verdict_on words = verdict (map string_bytes words)
+
+-- The same for the filter of texts. Of what they ask, how names are read and printed is all that counts there.
+abbrev pub text_verdict : List (List ℕ) → Verdict
+text_verdict words = judgement_by text_command (codes "cppfilt_text" ∷ words)
+
+abbrev pub text_verdict_on : List (String Global) → Verdict
+text_verdict_on words = text_verdict (map string_bytes words)

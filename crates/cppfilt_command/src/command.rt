@@ -2,7 +2,8 @@
 
 ghost use Rattle.std.specs.Prelude.{◌≡◌, IfOk, false};
 ghost use Rattle.clap.specs.Words.{app_of, rule_of};
-ghost use Rattle.cppfilt_command.specs.Command.{command, flag, names, number, with_flags, with_numbers};
+ghost use Rattle.cppfilt_command.specs.Command.{command, flag, names, number, with_flags, with_limits};
+ghost use Rattle.cppfilt_command.specs.Command.{with_numbers, with_printing_flags};
 
 use clap::{Arg, ArgAction, Command};
 use std::alloc::{AllocError, Global};
@@ -29,8 +30,8 @@ Examples:
   Show the symbols of an object file, and those that a library exports:
       nm -P main.o | sed 's/[ @].*//' | cppfilt
       nm -DP libmain.so | sed 's/[ @].*//' | cppfilt
-  Show the functions in a trace of glibc's backtrace_symbols:
-      sed 's/.*(\\(.*\\)+.*/\\1/' trace | cppfilt
+  Show the names inside the lines of a trace, a log, a disassembly:
+      cppfilt_text < trace
   Tell why some names have no text:
       cppfilt --why < names.txt
 
@@ -73,9 +74,12 @@ fn names<'a>(alloc: Global) -> Arg<'a>
         .help("Show these names, one a line, and leave standard input unread")
 }
 
-/// A command with the flags.
-fn with_flags<'a>(alloc: Global, command: Command<'a>) -> Result<Command<'a>, AllocError>
-    ensures { IfOk result (λ c. app_of c ≡ with_flags (app_of command.entry)) }
+/// A command with the flags on how names are printed.
+pub(crate) fn with_printing_flags<'a>(
+    alloc: Global,
+    command: Command<'a>,
+) -> Result<Command<'a>, AllocError>
+    ensures { IfOk result (λ c. app_of c ≡ with_printing_flags (app_of command.entry)) }
 {
     command
         .arg(flag(
@@ -95,7 +99,14 @@ fn with_flags<'a>(alloc: Global, command: Command<'a>) -> Result<Command<'a>, Al
             "hide-literal-types",
             'l',
             "Leave out the types of literals",
-        ))?
+        ))
+}
+
+/// A command with all flags.
+fn with_flags<'a>(alloc: Global, command: Command<'a>) -> Result<Command<'a>, AllocError>
+    ensures { IfOk result (λ c. app_of c ≡ with_flags (app_of command.entry)) }
+{
+    with_printing_flags(alloc, command)?
         .arg(flag(
             alloc,
             "types",
@@ -111,38 +122,47 @@ fn with_flags<'a>(alloc: Global, command: Command<'a>) -> Result<Command<'a>, Al
         ))
 }
 
-/// A command with the options that have numbers.
-fn with_numbers<'a>(alloc: Global, command: Command<'a>) -> Result<Command<'a>, AllocError>
-    ensures { IfOk result (λ c. app_of c ≡ with_numbers (app_of command.entry)) }
+/// A command with the options that bound names and their texts.
+pub(crate) fn with_limits<'a>(
+    alloc: Global,
+    command: Command<'a>,
+) -> Result<Command<'a>, AllocError>
+    ensures { IfOk result (λ c. app_of c ≡ with_limits (app_of command.entry)) }
 {
     command
         .arg(number(
             alloc,
             "parse-limit",
             "Levels of nesting a name may have, 1 to 1024\n\
-             [default: 96]; raise it where --why says \"too much\n\
-             recursion when demangling\"",
+             [default: 96]; raise it where cppfilt --why says\n\
+             \"too much recursion when demangling\"",
         ))?
         .arg(number(
             alloc,
             "print-limit",
             "Levels of nesting its text may have, 1 to 1024\n\
-             [default: 128]; raise it where --why says \"too much\n\
-             recursion when printing\"",
+             [default: 128]; raise it where cppfilt --why says\n\
+             \"too much recursion when printing\"",
         ))?
         .arg(number(
             alloc,
             "max-output",
             "Bytes its text may have, 1 to 1073741824\n\
              [default: any number]",
-        ))?
-        .arg(number(
-            alloc,
-            "sample",
-            "Self-test: demangle N made-up names, 1 to 100000,\n\
-             and write `names N read R bytes B`: R of them have\n\
-             a text, and these texts have B bytes together",
         ))
+}
+
+/// A command with all options that have numbers.
+fn with_numbers<'a>(alloc: Global, command: Command<'a>) -> Result<Command<'a>, AllocError>
+    ensures { IfOk result (λ c. app_of c ≡ with_numbers (app_of command.entry)) }
+{
+    with_limits(alloc, command)?.arg(number(
+        alloc,
+        "sample",
+        "Self-test: demangle N made-up names, 1 to 100000,\n\
+         and write `names N read R bytes B`: R of them have\n\
+         a text, and these texts have B bytes together",
+    ))
 }
 
 /// The command.

@@ -1,5 +1,4 @@
 pub mod ChunkLaws
-pub mod GatheredLaws
 pub mod NameLaws
 pub mod OwedLaws
 pub mod RanLaws

@@ -19,13 +19,13 @@ use Rattle.cppfilt_run.specs.declared.status.Status.{Status}
 use Rattle.cppfilt_run.specs.declared.status.Status.TheVariants.{Done, Help, Usage, ReadFault, WriteFault}
 use Rattle.cppfilt_run.specs.declared.status.Status.TheVariants.{InputTooLong}
 use Rattle.cppfilt_run.specs.declared.status.Status.TheVariants.{OutOfMemory}
-use Rattle.cppfilt_run.proofs.ReportLaws.{fault-free, run-done, run-read-written, run-long-written, run-complete}
+use Rattle.cppfilt_run.proofs.ReportLaws.{Counts, fault-free, run-done, run-read-written, run-long-written, run-complete}
 use Rattle.cppfilt_run.proofs.ReportLaws.{run-refused, run-help, run-usage, run-read, run-read-told, run-write}
 use Rattle.cppfilt_run.proofs.ReportLaws.{run-write-told, run-long, run-long-told, run-long-bytes, run-long-bytes-told}
 use Rattle.cppfilt_run.proofs.ReportLaws.{run-at_most}
 use Rattle.cppfilt_run.proofs.RunLaws.{moves-all, nothing-short, stop-memory}
 
-abbrev Reported : Status → Status → Type 0
+abbrev pub Reported : Status → Status → Type 0
 Reported s res = (res ≡ s) ⊎ (res ≡ OutOfMemory)
 
 -- ---- what was written at once
@@ -52,14 +52,14 @@ finished-complete _ res w0 w out0 out whole f k none = absurd f
 
 -- ---- where the input isn't read
 -- what may come then, and why
-record Quiet (s : Status) (w0 w : ℕ) : Type 0 where
-  no_read : s ≡ ReadFault → ⊥
-  no_long : s ≡ InputTooLong → ⊥
-  write : s ≡ WriteFault → Rose w0 w
-  told : w0 < w → s ≡ WriteFault
+pub record Quiet (s : Status) (w0 w : ℕ) : Type 0 where
+  pub no_read : s ≡ ReadFault → ⊥
+  pub no_long : s ≡ InputTooLong → ⊥
+  pub write : s ≡ WriteFault → Rose w0 w
+  pub told : w0 < w → s ≡ WriteFault
 
 -- a status without a fault
-calm : (s : Status) (w0 w : ℕ) → w ≡ w0 → (s ≡ ReadFault → ⊥) → (s ≡ InputTooLong → ⊥) → (s ≡ WriteFault → ⊥)
+pub calm : (s : Status) (w0 w : ℕ) → w ≡ w0 → (s ≡ ReadFault → ⊥) → (s ≡ InputTooLong → ⊥) → (s ≡ WriteFault → ⊥)
     → Quiet s w0 w
 calm s w0 w same no_read no_long no_write = record {
   no_read = no_read;
@@ -68,7 +68,7 @@ calm s w0 w same no_read no_long no_write = record {
   told = λ rose. absurd (omega arith);
 }
 
-stormy : (w0 w : ℕ) → Rose w0 w → Quiet WriteFault w0 w
+pub stormy : (w0 w : ℕ) → Rose w0 w → Quiet WriteFault w0 w
 stormy w0 w rose = record { no_read = λ e. cc; no_long = λ e. cc; write = λ e. rose; told = λ more. refl }
 
 finished-quiet : (s : Status) (w0 w : ℕ) (out0 out : Option (List ℕ)) (whole : List ℕ)
@@ -78,40 +78,45 @@ finished-quiet WriteFault w0 w out0 out whole f = stormy w0 w f.0.1
 finished-quiet OutOfMemory w0 w out0 out whole f = calm OutOfMemory w0 w f.0 (λ e. cc) (λ e. cc) (λ e. cc)
 finished-quiet _ w0 w out0 out whole f = absurd f
 
-helped-quiet : (s : Status) (w0 w : ℕ) → Helped s w0 w → Quiet s w0 w
+pub helped-quiet : (s : Status) (w0 w : ℕ) → Helped s w0 w → Quiet s w0 w
 helped-quiet Help w0 w f = calm Help w0 w f (λ e. cc) (λ e. cc) (λ e. cc)
 helped-quiet WriteFault w0 w f = stormy w0 w f.1
 helped-quiet OutOfMemory w0 w f = calm OutOfMemory w0 w f (λ e. cc) (λ e. cc) (λ e. cc)
 helped-quiet _ w0 w f = absurd f
 
-usage-quiet : (s : Status) (w0 w : ℕ) → (s ≡ Usage) ⊎ (s ≡ OutOfMemory) → w ≡ w0 → Quiet s w0 w
+pub usage-quiet : (s : Status) (w0 w : ℕ) → (s ≡ Usage) ⊎ (s ≡ OutOfMemory) → w ≡ w0 → Quiet s w0 w
 usage-quiet s w0 w (inl is) same = calm s w0 w same (λ e. cc) (λ e. cc) (λ e. cc)
 usage-quiet s w0 w (inr is) same = calm s w0 w same (λ e. cc) (λ e. cc) (λ e. cc)
 
 -- help was given, or there was a fault or no memory
-helped-as : (s res : Status) (w0 w : ℕ) → res ≡ s → Helped s w0 w
+pub helped-as : (s res : Status) (w0 w : ℕ) → res ≡ s → Helped s w0 w
     → (res ≡ Help) ⊎ ((res ≡ WriteFault) ⊎ (res ≡ OutOfMemory))
 helped-as Help res w0 w k f = inl k
 helped-as WriteFault res w0 w k f = inr (inl k)
 helped-as OutOfMemory res w0 w k f = inr (inr k)
 helped-as _ res w0 w k f = absurd f
 
+counts : {s : Status} {o : FilterOptions} {limit r0 r w0 w t0 t g : ℕ} {left0 left out0 out : Option (List ℕ)}
+    → Stopped o s limit r0 r w0 w t0 t g left0 left out0 out → Counts s limit r0 r w0 w t0 t left0 left
+counts st = record { faults = st.faults; amount = st.amount }
+
 -- ---- a run
 module _ (s res : Status) (r0 r w0 w t0 t g : ℕ) (left0 left out0 out : Option (List ℕ)) (kept : Reported s res) where
   abbrev HasRun : Verdict → Type 0
   HasRun v = Ran v s r0 r w0 w t0 t g left0 left out0 out
 
-  abbrev Filtered : Type 0
-  Filtered = (o : FilterOptions) × Stopped o s (2 ^ 40) r0 r w0 w t0 t g left0 left out0 out
+  -- the input was read, so far
+  abbrev pub Filtered : Type 0
+  Filtered = Counts s (2 ^ 40) r0 r w0 w t0 t left0 left
 
-  abbrev Other : Type 0
+  abbrev pub Other : Type 0
   Other = Unread r0 r t0 t left0 left × Quiet s w0 w
 
   -- the lines of the input were filtered, or it wasn't read
   sorted : (v : Verdict) → HasRun v → Filtered ⊎ Other
   sorted Mistaken p = inr (p.1, usage-quiet s w0 w p.0 p.2)
   sorted AsksHelp p = inr (p.1, helped-quiet s w0 w p.0)
-  sorted (Asks o lines) p = inl (o, p)
+  sorted (Asks o lines) p = inl (counts p)
   sorted (Asks o (names given)) p = inr (p.0, finished-quiet s w0 w out0 out (due_names o given) p.1)
   sorted (Asks o (sample n)) p = inr (p.0, finished-quiet s w0 w out0 out (summary o n) p.1)
 
@@ -120,68 +125,68 @@ module _ (s res : Status) (r0 r w0 w t0 t g : ℕ) (left0 left out0 out : Option
   as-before other differs e = elim kept [ inl k ↦ sym k ∙ e | inr k ↦ absurd (differs (sym e ∙ k)) ]
 
   -- ---- faults
-  read-by : Filtered ⊎ Other → res ≡ ReadFault → Rose r0 r
-  read-by (inl f) e = run-read s res f.1 kept e
+  pub read-by : Filtered ⊎ Other → res ≡ ReadFault → Rose r0 r
+  read-by (inl f) e = run-read s res f kept e
   read-by (inr q) e = absurd (q.1.no_read (as-before ReadFault (λ k. cc) e))
 
   ran-read : (v : Verdict) → HasRun v → res ≡ ReadFault → Rose r0 r
   ran-read v p = read-by (sorted v p)
 
-  read-told-by : Filtered ⊎ Other → r0 < r → (res ≡ ReadFault) ⊎ (res ≡ OutOfMemory)
-  read-told-by (inl f) rose = run-read-told s res f.1 kept rose
+  pub read-told-by : Filtered ⊎ Other → r0 < r → (res ≡ ReadFault) ⊎ (res ≡ OutOfMemory)
+  read-told-by (inl f) rose = run-read-told s res f kept rose
   read-told-by (inr q) rose = let e = q.0.0 in absurd (omega arith)
 
   ran-read-told : (v : Verdict) → HasRun v → r0 < r → (res ≡ ReadFault) ⊎ (res ≡ OutOfMemory)
   ran-read-told v p = read-told-by (sorted v p)
 
-  write-by : Filtered ⊎ Other → res ≡ WriteFault → Rose w0 w
-  write-by (inl f) e = run-write s res f.1 kept e
+  pub write-by : Filtered ⊎ Other → res ≡ WriteFault → Rose w0 w
+  write-by (inl f) e = run-write s res f kept e
   write-by (inr q) e = q.1.write (as-before WriteFault (λ k. cc) e)
 
   ran-write : (v : Verdict) → HasRun v → res ≡ WriteFault → Rose w0 w
   ran-write v p = write-by (sorted v p)
 
-  write-told-by : Filtered ⊎ Other → w0 < w → (res ≡ WriteFault) ⊎ (res ≡ OutOfMemory)
-  write-told-by (inl f) rose = run-write-told s res f.1 kept rose
+  pub write-told-by : Filtered ⊎ Other → w0 < w → (res ≡ WriteFault) ⊎ (res ≡ OutOfMemory)
+  write-told-by (inl f) rose = run-write-told s res f kept rose
   write-told-by (inr q) rose = elim kept [ inl k ↦ inl (k ∙ q.1.told rose) | inr k ↦ inr k ]
 
   ran-write-told : (v : Verdict) → HasRun v → w0 < w → (res ≡ WriteFault) ⊎ (res ≡ OutOfMemory)
   ran-write-told v p = write-told-by (sorted v p)
 
-  long-by : Filtered ⊎ Other → res ≡ InputTooLong → (t0 + 2 ^ 40 < t) ⊎ (2 ^ 64 - 1 ≤ t)
-  long-by (inl f) e = run-long s res f.1 kept e
+  pub long-by : Filtered ⊎ Other → res ≡ InputTooLong → (t0 + 2 ^ 40 < t) ⊎ (2 ^ 64 - 1 ≤ t)
+  long-by (inl f) e = run-long s res f kept e
   long-by (inr q) e = absurd (q.1.no_long (as-before InputTooLong (λ k. cc) e))
 
   ran-long : (v : Verdict) → HasRun v → res ≡ InputTooLong → (t0 + 2 ^ 40 < t) ⊎ (2 ^ 64 - 1 ≤ t)
   ran-long v p = long-by (sorted v p)
 
-  long-told-by : Filtered ⊎ Other → t0 + 2 ^ 40 < t → (res ≡ InputTooLong) ⊎ (res ≡ OutOfMemory)
-  long-told-by (inl f) rose = run-long-told s res f.1 kept rose
+  pub long-told-by : Filtered ⊎ Other → t0 + 2 ^ 40 < t → (res ≡ InputTooLong) ⊎ (res ≡ OutOfMemory)
+  long-told-by (inl f) rose = run-long-told s res f kept rose
   long-told-by (inr q) rose = let e = q.0.1 in absurd (omega arith)
 
   ran-long-told : (v : Verdict) → HasRun v → t0 + 2 ^ 40 < t → (res ≡ InputTooLong) ⊎ (res ≡ OutOfMemory)
   ran-long-told v p = long-told-by (sorted v p)
 
-  long-bytes-by : Filtered ⊎ Other → res ≡ InputTooLong
+  pub long-bytes-by : Filtered ⊎ Other → res ≡ InputTooLong
       → OfTaken left0 left (λ taken. length taken ≡ 2 ^ 40 + 1)
-  long-bytes-by (inl f) e = run-long-bytes s res f.1 kept e
+  long-bytes-by (inl f) e = run-long-bytes s res f kept e
   long-bytes-by (inr q) e = absurd (q.1.no_long (as-before InputTooLong (λ k. cc) e))
 
   ran-long-bytes : (v : Verdict) → HasRun v → res ≡ InputTooLong
       → OfTaken left0 left (λ taken. length taken ≡ 2 ^ 40 + 1)
   ran-long-bytes v p = long-bytes-by (sorted v p)
 
-  long-bytes-told-by : Filtered ⊎ Other
+  pub long-bytes-told-by : Filtered ⊎ Other
       → OfTaken left0 left (λ taken. 2 ^ 40 < length taken → (res ≡ InputTooLong) ⊎ (res ≡ OutOfMemory))
-  long-bytes-told-by (inl f) = run-long-bytes-told s res f.1 kept
+  long-bytes-told-by (inl f) = run-long-bytes-told s res f kept
   long-bytes-told-by (inr q) = rw q.0.2 (nothing-short left0 _ (2 ^ 40))
 
   ran-long-bytes-told : (v : Verdict) → HasRun v
       → OfTaken left0 left (λ taken. 2 ^ 40 < length taken → (res ≡ InputTooLong) ⊎ (res ≡ OutOfMemory))
   ran-long-bytes-told v p = long-bytes-told-by (sorted v p)
 
-  at_most-by : Filtered ⊎ Other → t ≤ t0 + 2 ^ 40 + 1
-  at_most-by (inl f) = run-at_most s f.1
+  pub at_most-by : Filtered ⊎ Other → t ≤ t0 + 2 ^ 40 + 1
+  at_most-by (inl f) = run-at_most s f
   at_most-by (inr q) = let e = q.0.1 in omega arith
 
   ran-at_most : (v : Verdict) → HasRun v → t ≤ t0 + 2 ^ 40 + 1
@@ -202,7 +207,7 @@ module _ (s res : Status) (r0 r w0 w t0 t g : ℕ) (left0 left out0 out : Option
   ran-usage : (v : Verdict) → HasRun v → res ≡ Usage → v ≡ Mistaken
   ran-usage Mistaken p e = refl
   ran-usage AsksHelp p e = absurd (subst (λ (x : Status). Helped x w0 w) (as-before Usage (λ k. cc) e) p.0)
-  ran-usage (Asks o lines) p e = absurd (run-usage s res p kept e)
+  ran-usage (Asks o lines) p e = absurd (run-usage s res (counts p) kept e)
   ran-usage (Asks o (names given)) p e =
       absurd (finished-others Usage (due_names o given) p.1 (as-before Usage (λ k. cc) e))
   ran-usage (Asks o (sample n)) p e =
@@ -226,7 +231,7 @@ module _ (s res : Status) (r0 r w0 w t0 t g : ℕ) (left0 left out0 out : Option
       let is = as-before Help (λ k. cc) e in
       absurd (elim p.0 [ inl k ↦ cc | inr k ↦ cc ])
   ran-help AsksHelp p e = refl
-  ran-help (Asks o lines) p e = absurd (run-help s res p kept e)
+  ran-help (Asks o lines) p e = absurd (run-help s res (counts p) kept e)
   ran-help (Asks o (names given)) p e =
       absurd (finished-others Help (due_names o given) p.1 (as-before Help (λ k. cc) e))
   ran-help (Asks o (sample n)) p e =
@@ -265,7 +270,7 @@ module _ (s res : Status) (r0 r w0 w t0 t g : ℕ) (left0 left out0 out : Option
 
   performed-complete : (o : FilterOptions) (work : Work) → HasRun (Asks o work) → NoFault r0 r → NoFault w0 w
       → IfSome (input_for work left0) (λ bytes. length bytes ≤ 2 ^ 40 → (res ≡ Done) ⊎ (res ≡ OutOfMemory))
-  performed-complete o lines p read write = run-complete s res p kept read write
+  performed-complete o lines p read write = run-complete s res (counts p) kept read write
   performed-complete o (names given) p read write =
       λ short. finished-complete s res w0 w out0 out (due_names o given) p.1 kept write
   performed-complete o (sample n) p read write =
@@ -280,6 +285,12 @@ module _ (s res : Status) (r0 r w0 w t0 t g : ℕ) (left0 left out0 out : Option
   ran-lines : (v : Verdict) → HasRun v → (o : FilterOptions) → v ≡ Asks o lines
       → Stopped o s (2 ^ 40) r0 r w0 w t0 t g left0 left out0 out
   ran-lines v p o is = asks v o lines is p
+
+-- at the end of the input
+stopped-end : (s : Status) {o : FilterOptions} {limit r0 r w0 w t0 t g : ℕ} {left0 left out0 out : Option (List ℕ)}
+    → Stopped o s limit r0 r w0 w t0 t g left0 left out0 out → s ≡ Done → IsAtEnd left
+stopped-end Done st e = st.written.0
+stopped-end _ st e = absurd cc
 
 -- ---- what holds at the end of a run
 module _ {v : Verdict} {res : Status} {r0 r w0 w t0 t g : ℕ} {left0 left out0 out : Option (List ℕ)}
@@ -359,7 +370,9 @@ module _ {v : Verdict} {res : Status} {r0 r w0 w t0 t g : ℕ} {left0 left out0 
 
   pub ended-refused : (o : FilterOptions) → v ≡ Asks o lines → NoFault r0 r → NoFault w0 w
       → IfSome left0 (λ bytes. 2 ^ 40 < length bytes → (res ≡ InputTooLong) ⊎ (res ≡ OutOfMemory))
-  ended-refused o is read write = run-refused x.before res (at o is) x.kept read write
+  ended-refused o is read write =
+      let st = at o is in
+      run-refused x.before res (counts st) (stopped-end x.before st) x.kept read write
 
 -- ---- how a run is put together
 pub ended : (v : Verdict) (s res : Status) (r0 r w0 w t0 t g : ℕ) (left0 left out0 out : Option (List ℕ))

@@ -55,12 +55,12 @@ at-least : (t sum more : ℕ) → more ≡ sum
 at-least t sum more e = elim (cases_lt more (2 ^ 64 - 1)) [ inl lt ↦ inl (omega arith) | inr ge ↦ inr (omega arith) ]
 
 -- the count of bytes taken, after one more read
-count-more : (t0 t count n : ℕ) → (t ≡ t0 + count) ⊎ (2 ^ 64 - 1 ≤ t)
+pub count-more : (t0 t count n : ℕ) → (t ≡ t0 + count) ⊎ (2 ^ 64 - 1 ≤ t)
     → (min (t + n) (2 ^ 64 - 1) ≡ t0 + (count + n)) ⊎ (2 ^ 64 - 1 ≤ min (t + n) (2 ^ 64 - 1))
 count-more t0 t count n (inl e) = at-least t (t0 + (count + n)) (t + n) (omega arith)
 count-more t0 t count n (inr last) = inr (omega arith)
 
-moves-block : (a b c : Bytes) (first mid last : List ℕ → List ℕ) (seen bytes : List ℕ)
+pub moves-block : (a b c : Bytes) (first mid last : List ℕ → List ℕ) (seen bytes : List ℕ)
     → ((more : List ℕ) → Moves a b (first (seen ++ more)) (mid more))
     → ((more : List ℕ) → Moves b c (mid (bytes ++ more)) (last more))
     → (more : List ℕ) → Moves a c (first ((seen ++ bytes) ++ more)) (last more)
@@ -158,14 +158,14 @@ front-of o (Some x) None out0 out1 bytes c f = absurd c
 front-of o (Some x) (Some y) out0 out1 bytes c f = rw c (f y)
 
 -- at the end of the input, the bytes that were taken are the whole of it
-whole-of : (left0 left1 : Bytes) (bytes : List ℕ) (P : List ℕ → Type 0) → Consumes left0 left1 bytes
+pub whole-of : (left0 left1 : Bytes) (bytes : List ℕ) (P : List ℕ → Type 0) → Consumes left0 left1 bytes
     → IsAtEnd left1 → P bytes → IfSome left0 P
 whole-of None left1 bytes P c end p = tt
 whole-of (Some x) None bytes P c end p = absurd c
 whole-of (Some x) (Some y) bytes P c end p = rw (c, end, append-nil) p
 
 -- the bytes before the last ones are the first of the input
-first-of : (left0 left1 : Bytes) (bytes last : List ℕ) (P : List ℕ → Type 0) → Consumes left0 left1 (bytes ++ last)
+pub first-of : (left0 left1 : Bytes) (bytes last : List ℕ) (P : List ℕ → Type 0) → Consumes left0 left1 (bytes ++ last)
     → P bytes → IfSome left0 (λ input. P (take (length bytes) input))
 first-of None left1 bytes last P c p = tt
 first-of (Some x) None bytes last P c p = absurd c

@@ -16,7 +16,7 @@ use Rattle.cppfilt_lines.specs.Lines.{body, ending}
 use Rattle.cppfilt_lines.specs.Shown.{answered, is_asked, is_named, reading_text, refused, shown}
 use Rattle.cppfilt_lines.specs.declared.options.FilterOptions.{FilterOptions}
 use Rattle.cppfilt_lines.proofs.LineLaws.{shown-asked}
-use Rattle.cppfilt_run.specs.Gathered.{IsGathered}
+use Rattle.demangle_gather.specs.Gathered.{IsGathered}
 
 -- no name begins with another byte than `_`
 pub unnamed : (b : List ℕ) → eqb (get_or b 0 0) 95 ≡ false → is_named b ≡ false

@@ -1,5 +1,4 @@
 pub mod Counted
-pub mod Gathered
 pub mod Outcome
 pub mod Owed
 pub mod Process

@@ -24,7 +24,7 @@ use std::alloc::Global;
 const BLOCK: usize = 64 * 1024;
 
 /// The status of a sink's refusal.
-pub(crate) fn status_of(fault: SinkFault) -> Status
+pub fn status_of(fault: SinkFault) -> Status
     ensures { result ≡ refusal_status fault }
 {
     match fault {

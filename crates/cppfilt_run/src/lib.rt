@@ -4,7 +4,6 @@
 
 mod cutting;
 pub mod filter;
-mod gathering;
 mod lines;
 mod names;
 pub mod program;

@@ -191,7 +191,7 @@ fn perform<R: Source, W: Sink>(
 }
 
 /// Writes the text of help.
-fn show_help<W: Sink>(text: &str, output: &mut W) -> Status
+pub fn show_help<W: Sink>(text: &str, output: &mut W) -> Status
     ensures { Helped result (W.faults output.old) (W.faults output.new) }
 {
     match write_all(output, text.as_bytes()) {
@@ -202,7 +202,7 @@ fn show_help<W: Sink>(text: &str, output: &mut W) -> Status
 
 /// Tells what is wrong with the words. A fault of `errors` doesn't change the status, but its lack of memory makes it
 /// `OutOfMemory`.
-fn show_usage<E: Sink>(text: &str, errors: &mut E) -> Status
+pub fn show_usage<E: Sink>(text: &str, errors: &mut E) -> Status
     ensures { (result ≡ Status.Usage) ⊎ (result ≡ Status.OutOfMemory) }
 {
     match write_all(errors, text.as_bytes()) {
@@ -212,7 +212,7 @@ fn show_usage<E: Sink>(text: &str, errors: &mut E) -> Status
 }
 
 /// Tells that some word isn't text.
-pub(crate) fn refuse_words<E: Sink>(errors: &mut E) -> Status
+pub fn refuse_words<E: Sink>(errors: &mut E) -> Status
     ensures { (result ≡ Status.Usage) ⊎ (result ≡ Status.OutOfMemory) }
 {
     show_usage("error: a word is not valid UTF-8\n", errors)
@@ -220,7 +220,7 @@ pub(crate) fn refuse_words<E: Sink>(errors: &mut E) -> Status
 
 /// Writes a status's message. A fault of `errors` doesn't change the status, but its lack of memory makes it
 /// `OutOfMemory`.
-pub(crate) fn report<E: Sink>(status: Status, errors: &mut E) -> Status
+pub fn report<E: Sink>(status: Status, errors: &mut E) -> Status
     ensures kept { (result ≡ status) ⊎ (result ≡ Status.OutOfMemory) }
     ensures message { NoFault (E.faults errors.old) (E.faults errors.new) → result ≢ Status.OutOfMemory
         → Appends (E.written errors.old) (E.written errors.new) (message_of result) }

@@ -9,13 +9,13 @@ ghost use Rattle.cppfilt_run.specs.Counted.{Counted, IsLength};
 ghost use Rattle.cppfilt_run.specs.Outcome.{Finished};
 
 use crate::filter::status_of;
-use crate::gathering::gather;
 use crate::status::Status;
 use cpp_demangle::SymbolFault;
 use cppfilt_ends::ends::Sink;
 use cppfilt_ends::output::write_all;
 use cppfilt_lines::FilterOptions;
 use demangle_decimal::Decimal;
+use demangle_gather::gather;
 use std::alloc::{AllocError, Global};
 
 /// Writes what is due for a sample of so many names.
@@ -97,7 +97,7 @@ fn text_len(
     ensures { IfOk result (IsLength (text_in (outcome options.now.parse options.now.print name.now))) }
 {
     let mut text = Vec::new(alloc);
-    match gather(alloc, options, &mut text, name) {
+    match gather(alloc, name, &options.parse, &options.print, &mut text) {
         Ok(()) => Ok(Some(text.len())),
         Err(SymbolFault::OutOfMemory) => Err(AllocError),
         Err(_) => Ok(None),

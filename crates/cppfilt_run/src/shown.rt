@@ -5,12 +5,12 @@ ghost use Rattle.cppfilt_ends.specs.Moves.{Gives};
 ghost use Rattle.cppfilt_run.specs.Refused.{IsRefused};
 ghost use Rattle.cppfilt_lines.specs.Shown.{is_named, is_asked, refused, shown};
 
-use crate::gathering::gather;
 use cpp_demangle::SymbolFault;
 use cppfilt_ends::ends::Sink;
 use cppfilt_ends::output::{emit, emit_both, relieve};
 use cppfilt_lines::FilterOptions;
 use demangle_context::SinkFault;
+use demangle_gather::gather;
 use std::alloc::Global;
 
 /// A line with more bytes than this before its ending is never asked for its text.
@@ -65,7 +65,7 @@ fn emit_asked<W: Sink>(
     ensures { Gives (W.written output.old) (W.written output.new) (W.faults output.old) (W.faults output.new) result
         (pending.old.items ++ shown options.now bytes.now) pending.new.items }
 {
-    match gather(alloc, options, pending, bytes) {
+    match gather(alloc, bytes, &options.parse, &options.print, pending) {
         Ok(()) => relieve(output, pending),
         Err(fault) => emit_fault(options.why, output, pending, bytes, fault),
     }

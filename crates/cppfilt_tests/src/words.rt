@@ -253,11 +253,11 @@ Options:
                             encoded types are shown too
   -w, --why                 Put a tab and the cause behind a name with no text
       --parse-limit <N>     Levels of nesting a name may have, 1 to 1024
-                            [default: 96]; raise it where --why says \"too much
-                            recursion when demangling\"
+                            [default: 96]; raise it where cppfilt --why says
+                            \"too much recursion when demangling\"
       --print-limit <N>     Levels of nesting its text may have, 1 to 1024
-                            [default: 128]; raise it where --why says \"too much
-                            recursion when printing\"
+                            [default: 128]; raise it where cppfilt --why says
+                            \"too much recursion when printing\"
       --max-output <N>      Bytes its text may have, 1 to 1073741824
                             [default: any number]
       --sample <N>          Self-test: demangle N made-up names, 1 to 100000,
@@ -277,8 +277,8 @@ Examples:
   Show the symbols of an object file, and those that a library exports:
       nm -P main.o | sed 's/[ @].*//' | cppfilt
       nm -DP libmain.so | sed 's/[ @].*//' | cppfilt
-  Show the functions in a trace of glibc's backtrace_symbols:
-      sed 's/.*(\\(.*\\)+.*/\\1/' trace | cppfilt
+  Show the names inside the lines of a trace, a log, a disassembly:
+      cppfilt_text < trace
   Tell why some names have no text:
       cppfilt --why < names.txt
 

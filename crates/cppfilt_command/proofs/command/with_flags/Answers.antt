@@ -1,13 +1,10 @@
-use Rattle.std.proofs.Common.{refl}
 use Rattle.std.proofs.lemmas.Result.{IfOk-weaker}
 use Rattle.cppfilt_command.proofs.Built.{added}
 use Rattle.cppfilt_command.proofs.command.with_flags.Goals as goal
 
 pub returns : goal.returns
 returns c =
-    let one = added _ _ _ _ _ c.in_ok-arg.ensures refl c.flag.ensures.local c.flag.ensures.rule in
-    let two = added _ _ _ _ _ c.in_ok-arg-2.ensures one c.flag-2.ensures.local c.flag-2.ensures.rule in
-    let three = added _ _ _ _ _ c.in_ok-arg-3.ensures two c.flag-3.ensures.local c.flag-3.ensures.rule in
-    let four = added _ _ _ _ _ c.in_ok-arg-4.ensures three c.flag-4.ensures.local c.flag-4.ensures.rule in
-    IfOk-weaker c.arg-5.result _ _
-    (λ made adds. added _ made _ _ _ adds four c.flag-5.ensures.local c.flag-5.ensures.rule) c.arg-5.ensures
+    let begun = c.in_ok-with_printing_flags.ensures in
+    let one = added _ _ _ _ _ c.in_ok-arg.ensures begun c.flag.ensures.local c.flag.ensures.rule in
+    IfOk-weaker c.arg-2.result _ _
+    (λ made adds. added _ made _ _ _ adds one c.flag-2.ensures.local c.flag-2.ensures.rule) c.arg-2.ensures

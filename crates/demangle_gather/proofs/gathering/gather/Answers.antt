@@ -1,13 +1,13 @@
 use Rattle.std.proofs.Common.{ap, ◌∙◌, take}
 use Rattle.demangle_printing.specs.Outcome.{outcome}
 use Rattle.cpp_demangle.specs.Answer.{answer_of}
-use Rattle.cppfilt_run.proofs.GatheredLaws.{gathered-text, gathered-nothing}
-use Rattle.cppfilt_run.proofs.gathering.gather.Goals as goal
+use Rattle.demangle_gather.proofs.GatheredLaws.{gathered-text, gathered-nothing}
+use Rattle.demangle_gather.proofs.gathering.gather.Goals as goal
 
 -- the text stands behind what was gathered
 pub returns-in-Ok : goal.returns-in-Ok
 returns-in-Ok c =
-    let answer = answer_of (outcome c.args.options.now.parse c.args.options.now.print c.args.name.now) in
+    let answer = answer_of (outcome c.args.parse.now c.args.print.now c.args.name.now) in
     let begun = c.behind-listener.result in
     let told = c.structured_demangle_symbol-answer.new.out in
     gathered-text answer c.args.gathered.now.items begun.gathered.items told.gathered.items _ begun.refusals
@@ -17,7 +17,7 @@ returns-in-Ok c =
 -- nothing does
 pub returns-in-Err : goal.returns-in-Err
 returns-in-Err c =
-    let answer = answer_of (outcome c.args.options.now.parse c.args.options.now.print c.args.name.now) in
+    let answer = answer_of (outcome c.args.parse.now c.args.print.now c.args.name.now) in
     let begun = c.behind-listener.result in
     let told = c.structured_demangle_symbol-answer.new.out in
     gathered-nothing answer c.args.gathered.now.items begun.gathered.items told.gathered.items _ _ begun.refusals

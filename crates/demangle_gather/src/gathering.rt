@@ -1,20 +1,20 @@
-//! A listener that gathers the text of a name behind what is gathered for a write.
+//! A listener that gathers the text of a name behind other bytes.
 
 ghost use Rattle.std.specs.Prelude.{◌≡◌, Some, None};
 ghost use Rattle.demangle_printing.specs.Outcome.{outcome};
 ghost use Rattle.cpp_demangle.specs.Answer.{answer_of};
-ghost use Rattle.cppfilt_run.specs.Gathered.{IsGathered};
+ghost use Rattle.demangle_gather.specs.Gathered.{IsGathered};
 
-use cpp_demangle::{DemangleNodeType, DemangleWrite, SymbolFault, structured_demangle_symbol};
-use cppfilt_lines::FilterOptions;
-use demangle_context::SinkFault;
+use cpp_demangle::{SymbolFault, structured_demangle_symbol};
+use demangle_context::{DemangleNodeType, DemangleOptions, DemangleWrite, SinkFault};
+use demangle_text::ParseOptions;
 use std::alloc::Global;
 use std::mem;
 
 /// A listener that puts the text behind the bytes it was made with, and keeps nothing of the nodes. It fails only for
 /// lack of memory.
 #[derive(Drop)]
-pub(crate) struct Gathering {
+struct Gathering {
     gathered: Vec<u8>,
     refusals: u64,
 }
@@ -61,26 +61,21 @@ impl DemangleWrite for Gathering {
     fn pop_demangle_node(&mut self) {}
 }
 
-/// Puts the text of a name behind what is gathered, while it is printed. Where the name has no text, what is gathered
-/// is cut back to what it was. Errors are those of `demangle_symbol`.
-pub(crate) fn gather(
+/// Puts the text of a linker name behind what is gathered, while it is printed. Where the name has no text, what is
+/// gathered is cut back to what it was. Errors are those of `demangle_symbol`.
+pub fn gather(
     alloc: Global,
-    options: &FilterOptions,
-    gathered: &mut Vec<u8>,
     name: &[u8],
+    parse: &ParseOptions,
+    print: &DemangleOptions,
+    gathered: &mut Vec<u8>,
 ) -> Result<(), SymbolFault>
-    ensures { IsGathered (answer_of (outcome options.now.parse options.now.print name.now))
+    ensures { IsGathered (answer_of (outcome parse.now print.now name.now))
         gathered.old.items gathered.new.items result }
 {
     let before = gathered.len();
     let mut listener = Gathering::behind(mem::replace(gathered, Vec::new(alloc)));
-    let answer = structured_demangle_symbol(
-        alloc,
-        name,
-        &mut listener,
-        &options.parse,
-        &options.print,
-    );
+    let answer = structured_demangle_symbol(alloc, name, &mut listener, parse, print);
     *gathered = listener.into_gathered();
     match answer {
         Ok(()) => Ok(()),

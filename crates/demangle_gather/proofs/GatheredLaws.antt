@@ -8,7 +8,7 @@ use Rattle.demangle_context.specs.declared.error.DemangleError.TheVariants as pr
 use Rattle.cpp_demangle.specs.NameTold.{IsToldAnswer, Lengthens}
 use Rattle.cpp_demangle.specs.declared.demangle.SymbolFault.{SymbolFault}
 use Rattle.cpp_demangle.specs.declared.demangle.SymbolFault.TheVariants as fault
-use Rattle.cppfilt_run.specs.Gathered.{IsGathered}
+use Rattle.demangle_gather.specs.Gathered.{IsGathered}
 
 -- what is seen of it, with this text
 abbrev with_text : (text : List ℕ) (refusals : ℕ) → Seen

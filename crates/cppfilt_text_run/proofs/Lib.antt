@@ -1,0 +1,2 @@
+pub mod RanLaws
+pub mod RunLaws
