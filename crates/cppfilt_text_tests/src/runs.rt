@@ -55,7 +55,7 @@ fn texts_are_filtered(rt: HostRuntime) -> Result<(), Fail> {
         let (status, output, errors) = run_over(rt.alloc(), "", text)?;
         assert_eq!(rt; status, Status::Done, "{text:?}");
         assert_eq!(rt; output.bytes(), *wanted);
-        assert_eq!(rt; errors.bytes(), b"");
+        assert_eq!(rt; errors.bytes(), b"".as_slice());
     }
     for (word, text, wanted) in &WORDS {
         let (status, output, _errors) = run_over(rt.alloc(), word, text)?;
@@ -70,7 +70,7 @@ fn wrong_words_are_refused(rt: HostRuntime) -> Result<(), Fail> {
     for (word, told) in &MISTAKES {
         let (status, output, errors) = run_over(rt.alloc(), word, b"_Z1fv")?;
         assert_eq!(rt; status, Status::Usage, "{word}");
-        assert_eq!(rt; output.bytes(), b"");
+        assert_eq!(rt; output.bytes(), b"".as_slice());
         assert!(rt; errors.bytes().starts_with(told.as_bytes()), "{word}");
     }
     let (status, output, _errors) = run_over(rt.alloc(), "-h", b"_Z1fv")?;
@@ -105,7 +105,7 @@ fn a_failed_read_leaves_what_is_settled(rt: HostRuntime) -> Result<(), Fail> {
         let status = run(rt.alloc(), words, &mut source, &mut output, &mut errors);
         assert_eq!(rt; status, Status::ReadFault, "{call}");
         assert_eq!(rt; output.bytes(), *wanted, "{call}");
-        assert_eq!(rt; errors.bytes(), b"cppfilt: read fault\n");
+        assert_eq!(rt; errors.bytes(), b"cppfilt: read fault\n".as_slice());
     }
     Ok(())
 }

@@ -27,9 +27,7 @@ fn a_text_becomes_the_same_however_it_is_cut(rt: HostRuntime) -> Result<(), Fail
     for (text, wanted) in &TEXTS {
         for cut in 0..=text.len() {
             let (front, back) = text.split_at(cut.min(text.len()));
-            let Ok(out) = fed_in_two(rt.alloc(), front, back) else {
-                return Err(Fail);
-            };
+            let out = fed_in_two(rt.alloc(), front, back)?;
             assert_eq!(rt; out.as_slice(), *wanted, "{text:?} at {cut}");
         }
     }
@@ -46,6 +44,6 @@ fn the_front_of_a_name_waits(rt: HostRuntime) -> Result<(), Fail> {
     }
     assert!(rt; stream.finish(&mut out).is_ok());
     assert_eq!(rt; stream.held(), 0);
-    assert_eq!(rt; out.as_slice(), b"f()");
+    assert_eq!(rt; out.as_slice(), b"f()".as_slice());
     Ok(())
 }
