@@ -1,0 +1,6 @@
+mod CutLaws
+mod HeardLaws
+mod ItemLaws
+mod MarkLaws
+mod WalkLaws
+mod FrontLaws
