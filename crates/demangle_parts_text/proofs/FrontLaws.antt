@@ -1,31 +1,28 @@
 -- Laws on what is found at a front.
-use Rattle.std.proofs.Common.{◌≡◌, ℕ, zero, suc, ◌+◌, ◌-◌, ◌≤◌, ◌<◌, Bool, true, false, List, [], ◌∷◌, ◌++◌, length}
+use Rattle.std.proofs.Common.{◌≡◌, ℕ, zero, suc, ◌+◌, ◌≤◌, ◌<◌, Bool, true, false, List, [], ◌∷◌, ◌++◌, length}
 use Rattle.std.proofs.Common.{take, drop, get_or, refl, sym, ap, ◌∙◌, arith, Some, None, append_assoc, take-append-drop}
 use Rattle.std.proofs.lemmas.Grind.{common_steps}
 use Rattle.std.proofs.Math.Seq.{take-suc}
 use Rattle.std.specs.Prelude.{◌==◌, ◌&&◌, Option, is_some}
 use Rattle.demangle_printing.specs.State.{Kind}
 use Rattle.demangle_context.specs.Kinds.{kind_of}
-use Rattle.demangle_parts_text.specs.Fronts.{EndsAt, IsUpTo, IsWithin, NodeIs, here}
+use Rattle.demangle_parts_text.specs.Fronts.{IsWithin, NodeIs, TextAt, ends_node, here}
 use Rattle.demangle_parts_text.specs.Heard.{sizes}
-use Rattle.demangle_parts_text.specs.Items.{Items, byte_before, node, none, text, text_in}
-use Rattle.demangle_parts_text.specs.MarkOf.{begins_kind, mark_ends}
-use Rattle.demangle_parts_text.specs.Marks.{IsBehind, all_end, begin_chars, begins_char, is_end, items_of, open_marks}
-use Rattle.demangle_parts_text.specs.Walk.{is_none, kind_code, node_first, when}
+use Rattle.demangle_parts_text.specs.Items.{Items, byte_before, node, none, text}
+use Rattle.demangle_parts_text.specs.MarkOf.{begins_kind, is_piece, mark_ends}
+use Rattle.demangle_parts_text.specs.Marks.{IsBehind, all_end, are_pieces, begin_chars, begins_char, begins_with_piece, ended, is_end}
+use Rattle.demangle_parts_text.specs.Marks.{items_of, one_less, open_marks}
+use Rattle.demangle_parts_text.specs.Walk.{is_none, kind_code, node_first, not_text, when, with_text}
 use Rattle.demangle_parts_text.specs.declared.front.Front.{Front}
 use Rattle.demangle_parts_text.specs.declared.mark.Mark.{Mark}
 use Rattle.demangle_parts_text.specs.declared.mark.Mark.TheVariants as mark
 use Rattle.demangle_parts_text.proofs.HeardLaws.{sizes-append}
 use Rattle.demangle_parts_text.proofs.ItemLaws.{bytes_before}
 use Rattle.demangle_parts_text.proofs.MarkLaws.{chars-behind, end-behind, here-begins, here-end, here-node, here-none}
-use Rattle.demangle_parts_text.proofs.MarkLaws.{here-piece, here-text, lift-one, open-append}
+use Rattle.demangle_parts_text.proofs.MarkLaws.{begins-end, bytes-text-before, here-piece, here-text, lift-one, no-text-front}
+use Rattle.demangle_parts_text.proofs.MarkLaws.{open-append, pieces-close, size-more, sizes-behind, text-run}
 
 -- ---- the first mark
-abbrev pub is_piece : Mark → Bool
-is_piece (mark.Piece n) = true
-is_piece (mark.Begins k) = false
-is_piece mark.Ends = false
-
 pub begins-no-piece : (k : Kind) (m : Mark) → begins_kind k m ≡ true → is_piece m ≡ false
 begins-no-piece k (mark.Piece n) e = absurd cc
 begins-no-piece k (mark.Begins j) e = refl
@@ -113,10 +110,11 @@ pub enters : (k : Kind) (t : List ℕ) (all : List Mark) (m : Mark) (ms : List M
     → (others : Items) × (node_first k (items_of t all) ≡ Some (items_of t ms, others))
 enters k t all (mark.Piece n) ms a b e = absurd cc
 enters k t all (mark.Begins j) ms a b e =
-    let h = here-begins t j ms (sym (ap all_end a) ∙ e) in
-    (h.0,
-    ap (λ l. node_first k (items_of t l)) a ∙ ap (node_first k) h.1
-    ∙ when-true (kind_code (kind_of j) == kind_code k) (Some (items_of t ms, h.0)) b)
+    let h = here-begins t j ms (sym (ap all_end a) ∙ e) in (
+      h.0,
+      ap (λ l. node_first k (items_of t l)) a ∙ ap (node_first k) h.1
+          ∙ when-true (kind_code (kind_of j) == kind_code k) (Some (items_of t ms, h.0)) b,
+    )
 enters k t all mark.Ends ms a b e = absurd cc
 
 pub node-at : (k : Kind) (t : List ℕ) (m : Mark) (w ms : List Mark) → begins_kind k m ≡ true
@@ -188,3 +186,119 @@ behind-node k t ms m w ns n u b e c s d = record {
 pub no-mark : (ms : List Mark) → length ms ≡ 0 → is_end ms ≡ true
 no-mark [] e = refl
 no-mark (m ∷ ms) e = absurd (omega arith)
+
+-- ---- what is left behind the first marks
+pub taken-fits : (t : List ℕ) (ms : List Mark) (n b : ℕ) → sizes ms ≡ length t → sizes (take n ms) ≡ b → b ≤ length t
+taken-fits t ms n b w e =
+    let both : sizes (take n ms) + sizes (drop n ms) ≡ sizes ms =
+    sym (sizes-append (take n ms) (drop n ms)) ∙ ap sizes (take-append-drop n ms) in
+    omega arith
+
+pub rest-sizes : (t : List ℕ) (ms : List Mark) (n b : ℕ) (u : List ℕ) (ns : List Mark) → sizes ms ≡ length t
+    → sizes (take n ms) ≡ b → u ≡ drop b t → ns ≡ drop n ms → sizes ns ≡ length u
+rest-sizes t ms n b u ns w e f g =
+    ap sizes g ∙ sizes-behind t (take n ms) (drop n ms) (ap sizes (take-append-drop n ms) ∙ w)
+    ∙ ap (λ i. length (drop i t)) e ∙ ap length (sym f)
+
+pub rest-end : (ms : List Mark) (n : ℕ) (ns : List Mark) → all_end ms ≡ true → ns ≡ drop n ms → all_end ns ≡ true
+rest-end ms n ns e g =
+    ap all_end g ∙ end-behind (take n ms) (drop n ms) (ap all_end (take-append-drop n ms) ∙ e)
+
+pub rest-chars : (t : List ℕ) (ms : List Mark) (n b : ℕ) (u : List ℕ) (ns : List Mark)
+    → begin_chars false t ms ≡ true → sizes (take n ms) ≡ b → u ≡ drop b t → ns ≡ drop n ms
+    → begin_chars false u ns ≡ true
+rest-chars t ms n b u ns c e f g =
+    ap (begin_chars false u) g ∙ ap (λ l. begin_chars false l (drop n ms)) (f ∙ ap (λ i. drop i t) (sym e))
+    ∙ chars-behind false t (take n ms) (drop n ms) (ap (begin_chars false t) (take-append-drop n ms) ∙ c)
+
+-- the marks of a node and its end
+pub with-end : (ms : List Mark) (n b : ℕ) (d : Mark) → n < length ms → get_or ms n d ≡ mark.Ends
+    → sizes (take n ms) ≡ b → sizes (take (n + 1) ms) ≡ b
+unfolding sizes
+with-end ms n b d i e s = let h = size-more ms n mark.Ends d b i e s in omega arith
+
+pub cut-at-end : (ms : List Mark) (n : ℕ) (d : Mark) → n < length ms → get_or ms n d ≡ mark.Ends
+    → ms ≡ take n ms ++ mark.Ends ∷ drop (n + 1) ms
+cut-at-end ms n d i e =
+    let more : n + 1 ≡ suc n = omega arith in
+    sym (take-append-drop (n + 1) ms)
+    ∙ ap (λ l. l ++ drop (n + 1) ms)
+    (ap (λ k. take k ms) more ∙ take-suc ms n d i ∙ ap (λ x. take n ms ++ x ∷ []) e)
+    ∙ append_assoc (take n ms) (mark.Ends ∷ []) (drop (n + 1) ms)
+
+pub begun-ends : (k : Kind) (m : Mark) (all ms : List Mark) → begins_kind k m ≡ true → all ≡ m ∷ ms
+    → all_end all ≡ true → is_some (one_less (ended ms)) ≡ true
+begun-ends k (mark.Piece n) all ms b a e = absurd cc
+begun-ends k (mark.Begins j) all ms b a e = begins-end j ms (sym (ap all_end a) ∙ e)
+begun-ends k mark.Ends all ms b a e = absurd cc
+
+-- ---- the answers
+pub text-at : (f g : Front) (n b : ℕ) → are_pieces (take n f.marks.now) ≡ true → sizes (take n f.marks.now) ≡ b
+    → begins_with_piece (drop n f.marks.now) ≡ false → g.text.now ≡ drop b f.text.now
+    → g.marks.now ≡ drop n f.marks.now → TextAt f b g
+text-at f g n b p s e x y =
+    let t = f.text.now in
+    let ms = f.marks.now in
+    let ended' = rest-end ms n (drop n ms) f.all_end refl in
+    let no-text' = no-text-front (drop b t) (drop n ms) ended' e in
+    let same : here g ≡ items_of (drop b t) (drop n ms) =
+    ap (λ l. items_of l g.marks.now) x ∙ ap (items_of (drop b t)) y in
+    record {
+      items =
+          ap (items_of t) (sym (take-append-drop n ms)) ∙ text-run t (take n ms) (drop n ms) p
+          ∙ ap (λ i. bytes_before (take i t) (items_of (drop i t) (drop n ms))) s
+          ∙ bytes-text-before (take b t) (items_of (drop b t) (drop n ms)) no-text'
+          ∙ ap (with_text (take b t)) (sym same);
+      no_text = ap not_text same ∙ no-text';
+      behind = record {
+        within = take n ms;
+        is = sym (take-append-drop n ms) ∙ ap (λ l. take n ms ++ l) (sym y);
+        closed = pieces-close (take n ms) p;
+        size = s;
+        text_is = x;
+      };
+      within = taken-fits t ms n b f.whole s;
+    }
+
+pub node-is : (k : Kind) (f w g : Front) (n b : ℕ) (d : Mark) → IsWithin k f w → n < length w.marks.now
+    → get_or w.marks.now n d ≡ mark.Ends → open_marks (take n w.marks.now) (Some zero) ≡ Some zero
+    → sizes (take n w.marks.now) ≡ b → g.text.now ≡ drop b w.text.now → g.marks.now ≡ drop (n + 1) w.marks.now
+    → NodeIs k f b g
+node-is k f w g n b d h i e c s x y =
+    let t = f.text.now in
+    let ms = w.marks.now in
+    let v = take n ms in
+    let ns = drop (n + 1) ms in
+    let cut' = cut-at-end ms n d i e in
+    let all : f.marks.now ≡ h.first ∷ (v ++ mark.Ends ∷ ns) = h.marks ∙ ap (λ l. h.first ∷ l) cut' in
+    let text' : g.text.now ≡ drop b t = x ∙ ap (drop b) h.text in
+    let same : here g ≡ items_of (drop (sizes v) t) ns =
+    ap (λ l. items_of l g.marks.now) (text' ∙ ap (λ j. drop j t) (sym s)) ∙ ap (items_of (drop (sizes v) t)) y in
+    record {
+      node = items_of t (v ++ mark.Ends ∷ ns);
+      is =
+          ap (λ l. node_first k (items_of t l)) all ∙ node-at k t h.first v ns h.begins c
+          ∙ ap (λ i. Some (items_of t (v ++ mark.Ends ∷ ns), i)) (sym same);
+      text = here-text t v ns c ∙ ap (λ j. take j t) s;
+      behind =
+          behind-node k t f.marks.now h.first v g.marks.now b g.text.now h.begins
+          (all ∙ ap (λ l. h.first ∷ (v ++ mark.Ends ∷ l)) (sym y)) c s text';
+      within = (let fits = taken-fits w.text.now ms n b w.whole s in let size = ap length h.text in omega arith);
+    }
+
+pub within-is : (k : Kind) (f g : Front) (m : Mark) → begins_kind k m ≡ true → f.marks.now ≡ m ∷ g.marks.now
+    → g.text.now ≡ f.text.now → IsWithin k f g
+within-is k f g m b a t =
+    let h = enters k f.text.now f.marks.now m g.marks.now a b f.all_end in
+    record {
+      first = m;
+      begins = b;
+      marks = a;
+      text = t;
+      others = h.0;
+      is = h.1 ∙ ap (λ l. Some (items_of l g.marks.now, h.0)) (sym t);
+    }
+
+pub no-end : (ms : List Mark) → length ms ≡ 0 → ends_node ms ≡ false
+no-end [] e = refl
+no-end (m ∷ ms) e = absurd (omega arith)

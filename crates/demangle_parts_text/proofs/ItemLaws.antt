@@ -3,7 +3,7 @@ use Rattle.std.proofs.Common.{◌≡◌, ℕ, suc, zero, List, [], ◌∷◌, �
 use Rattle.std.proofs.Common.{◌<◌, lit<, refl, sym, ap, ◌∙◌, append_assoc, append-nil, arith}
 use Rattle.std.proofs.Common.{Some, None, map}
 use Rattle.demangle_printing.specs.State.{Kind, Event, byte, opened, closed}
-use Rattle.demangle_printing.specs.Laws.{AreClosed, open_behind}
+use Rattle.demangle_printing.specs.Laws.{open_behind}
 use Rattle.demangle_printing.specs.Outcome.{text_of}
 use Rattle.demangle_parts_text.specs.Items.{Items, none, text, node, before_top, began, byte_before, items, levels, text_in, top}
 use Rattle.demangle_parts_text.specs.Laws.{KeepsText}

@@ -4,3 +4,4 @@ mod ItemLaws
 mod MarkLaws
 mod WalkLaws
 mod FrontLaws
+mod DivideLaws

@@ -88,7 +88,7 @@ open-nothing : (es : List Event) → open_behind es None ≡ None
 open-nothing [] = refl
 open-nothing (e ∷ es) = refl
 
-opens : (t : List ℕ) (ms : List Mark) (n : Option ℕ) → open_behind (events_of (calls t ms)) n ≡ open_marks ms n
+pub opens : (t : List ℕ) (ms : List Mark) (n : Option ℕ) → open_behind (events_of (calls t ms)) n ≡ open_marks ms n
 unfolding calls open_marks
 opens t [] n = refl
 opens t (m ∷ ms) None = open-nothing (events_of (calls t (m ∷ ms)))
@@ -124,7 +124,7 @@ closes-some zero some = absurd (omega arith)
 closes-some (suc m) some = ap (λ x. Some x) (let e : m ≡ suc m - 1 = omega arith in e)
 
 -- ---- which nodes end
-less-some : (o : Option ℕ) (k : ℕ) → one_less o ≡ Some k → o ≡ Some (suc k)
+pub less-some : (o : Option ℕ) (k : ℕ) → one_less o ≡ Some k → o ≡ Some (suc k)
 less-some None k e = absurd cc
 less-some (Some zero) k e = absurd cc
 less-some (Some (suc n)) k e = let same : n ≡ k = cc in ap (λ x. Some (suc x)) same
@@ -179,6 +179,15 @@ one-more m ms n k e c = record {
   is = ap (λ l. m ∷ l) e.is;
   closes = c;
 }
+
+pub never-open : (ms : List Mark) (i count : ℕ) → length ms ≤ i → open_marks (take i ms) (Some zero) ≡ Some count
+    → is_some (one_less (ended ms)) ≡ true → ⊥
+never-open ms i count past e s =
+    let all : take i ms ≡ ms = grind (arith, common_steps) in
+    let some = some-of (one_less (ended ms)) s in
+    let h = count-open ms zero count (suc some.0) (sym (ap (λ l. open_marks l (Some zero)) all) ∙ e)
+    (less-some (ended ms) some.0 some.1) in
+    absurd (omega arith)
 
 ends-in : (ms : List Mark) (n k : ℕ) → ended ms ≡ Some (suc (n + k)) → EndsIn ms n
 unfolding open_marks ended
@@ -252,7 +261,7 @@ bytes-text : (bs : List ℕ) (es : List Event) → text_of (map byte bs ++ es) �
 bytes-text [] es = refl
 bytes-text (b ∷ bs) es = ap (λ l. b ∷ l) (bytes-text bs es)
 
-calls-text : (t : List ℕ) (w : List Mark) → text_of (events_of (calls t w)) ≡ take (sizes w) t
+pub calls-text : (t : List ℕ) (w : List Mark) → text_of (events_of (calls t w)) ≡ take (sizes w) t
 unfolding calls sizes
 calls-text t [] = refl
 calls-text t (mark.Piece n ∷ w) =
@@ -334,10 +343,11 @@ pieces-close (mark.Ends ∷ w) e = absurd cc
 pub here-begins : (t : List ℕ) (k : DemangleNodeType) (ms : List Mark) → all_end (mark.Begins k ∷ ms) ≡ true
     → (m : Items) × (items_of t (mark.Begins k ∷ ms) ≡ node (kind_of k) (items_of t ms) m)
 here-begins t k ms e =
-    let n = node-ends ms (begins-end k ms e) in
-    (items_of (drop (sizes n.within) t) n.behind,
-    ap (λ l. items_of t (mark.Begins k ∷ l)) n.is ∙ here-node t k n.within n.behind n.closes
-    ∙ ap (λ l. node (kind_of k) (items_of t l) (items_of (drop (sizes n.within) t) n.behind)) (sym n.is))
+    let n = node-ends ms (begins-end k ms e) in (
+      items_of (drop (sizes n.within) t) n.behind,
+      ap (λ l. items_of t (mark.Begins k ∷ l)) n.is ∙ here-node t k n.within n.behind n.closes
+          ∙ ap (λ l. node (kind_of k) (items_of t l) (items_of (drop (sizes n.within) t) n.behind)) (sym n.is),
+    )
 
 pub no-text-front : (t : List ℕ) (ms : List Mark) → all_end ms ≡ true → begins_with_piece ms ≡ false
     → not_text (items_of t ms) ≡ true

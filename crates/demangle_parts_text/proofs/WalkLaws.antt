@@ -1,13 +1,11 @@
 -- Laws on where a scope and a base end: the splits and cuts are the parts at these places.
-use Rattle.std.proofs.Common.{◌≡◌, ℕ, zero, suc, ◌+◌, ◌-◌, ◌≤◌, ◌<◌, Bool, true, false, ◌&&◌, List, [], ◌∷◌, ◌++◌, length}
-use Rattle.std.proofs.Common.{take, drop, refl, sym, ap, ◌∙◌, append_assoc, append-nil, nat_eq, Some, None, arith}
+use Rattle.std.proofs.Common.{◌≡◌, ℕ, ◌+◌, ◌-◌, ◌≤◌, ◌<◌, Bool, true, false, ◌&&◌, List, [], ◌∷◌, ◌++◌, length}
+use Rattle.std.proofs.Common.{take, drop, refl, sym, ap, ◌∙◌, append-nil, Some, None, arith}
 use Rattle.std.proofs.lemmas.Grind.{common_steps}
-use Rattle.std.proofs.Math.Seq.{drop-append-add, take-append-add, take-append_seam}
+use Rattle.std.proofs.Math.Seq.{drop-append-add, take-append_seam}
 use Rattle.std.specs.Prelude.{Option, codes}
-use Rattle.std.specs.List.{starts_with}
 use Rattle.std.specs.Str.{bytes_eq}
-use Rattle.demangle_printing.specs.State.{prefix, template_prefix, template_args, unqualified_name, nested_name}
-use Rattle.demangle_printing.specs.State.{Kind, template_param, decltype, data_member_prefix, virtual_table}
+use Rattle.demangle_printing.specs.State.{prefix, template_prefix, template_args, unqualified_name}
 use Rattle.demangle_parts_text.specs.Items.{Items, none, text, node, text_in}
 use Rattle.demangle_parts_text.specs.Split.{Split, colons, ends_in_colons}
 use Rattle.demangle_parts_text.specs.Split.{opens, pick, scoped, split, with_more, without_colons}
@@ -17,7 +15,7 @@ use Rattle.demangle_parts_text.proofs.CutLaws.{is-text}
 
 -- ---- a node
 -- the scope of this length, if there is one, and what is behind `::`
-abbrev split_at : Option ℕ → List ℕ → Split
+abbrev pub split_at : Option ℕ → List ℕ → Split
 split_at None t = record { scope = None; base = t }
 split_at (Some n) t = record { scope = Some (take n t); base = drop (n + 2) t }
 
@@ -26,7 +24,7 @@ picked-at : (b : Bool) (s : Split) (n : ℕ) (t : List ℕ) → (b ≡ true → 
 picked-at true s n t h = h refl
 picked-at false s n t h = refl
 
-abbrev IsWithinText : Option ℕ → List ℕ → Type 0
+abbrev pub IsWithinText : Option ℕ → List ℕ → Type 0
 IsWithinText None t = Unit {0}
 IsWithinText (Some n) t = n + 2 ≤ length t
 
@@ -110,8 +108,16 @@ split-by (node template_prefix q (text t (node template_args a (text g none)))) 
 split-by other = refl
 
 -- ---- what is found at the front
-scope-parts : (p q w m : Items) → Some (p, q) ≡ Some (w, m) → (p ≡ w) × (q ≡ m)
-scope-parts p q w m e = (cc, cc)
+abbrev first_in : Option (Items × Items) → Items
+first_in None = none
+first_in (Some x) = x.0
+
+abbrev second_in : Option (Items × Items) → Items
+second_in None = none
+second_in (Some x) = x.1
+
+pub scope-parts : (p q w m : Items) → ◌≡◌ {A = Option (Items × Items)} (Some (p, q)) (Some (w, m)) → (p ≡ w) × (q ≡ m)
+scope-parts p q w m e = (ap first_in e, ap second_in e)
 
 pub scope-first : (i w m : Items) → node_first template_prefix i ≡ Some (w, m)
     → scope_in i ≡ when (are_arguments m) (scope_in w)

@@ -1,5 +1,5 @@
 -- What the parts of a text are, and of what is heard.
-use Rattle.std.specs.Prelude.{◌≡◌, ℕ, Bool, List, Option, Some, None, string_bytes}
+use Rattle.std.specs.Prelude.{◌≡◌, Bool, List, Option, Some, None, string_bytes}
 use Rattle.demangle_printing.specs.Laws.{AreClosed}
 use Rattle.demangle_meets.specs.Seen.{Call, HaveText, events_of}
 use Rattle.demangle_parts_text.specs.Items.{items}

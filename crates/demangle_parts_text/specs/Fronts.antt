@@ -1,12 +1,12 @@
 -- What is found at a front.
-use Rattle.std.specs.Prelude.{◌≡◌, ℕ, ◌+◌, ◌≤◌, Bool, true, false, List, ◌∷◌, length, take, Option, Some, None}
+use Rattle.std.specs.Prelude.{◌≡◌, ℕ, ◌+◌, ◌≤◌, Bool, true, false, ◌⊎◌, List, [], ◌∷◌, length, take, Option, Some, None}
 use Rattle.std.specs.Str.{IsCharBoundary}
 use Rattle.demangle_printing.specs.State.{Kind}
 use Rattle.demangle_parts_text.specs.Items.{Items, text_in}
 use Rattle.demangle_parts_text.specs.MarkOf.{begins_kind, mark_ends}
 use Rattle.demangle_parts_text.specs.Marks.{IsBehind, is_end, items_of}
-use Rattle.demangle_parts_text.specs.Split.{cut}
-use Rattle.demangle_parts_text.specs.Walk.{Places, base_from, node_first, not_text, parts_at, scope_in, with_text}
+use Rattle.demangle_parts_text.specs.Split.{cut, cut_if}
+use Rattle.demangle_parts_text.specs.Walk.{Places, are_arguments, base_from, node_first, not_text, parts_at, scope_in, with_text}
 use Rattle.demangle_parts_text.specs.declared.front.Front.{Front}
 use Rattle.demangle_parts_text.specs.declared.mark.Mark.{Mark}
 
@@ -88,6 +88,21 @@ abbrev pub ScopeAt : Front → Option (ℕ × Front) → Type 0
 ScopeAt f None = scope_in (here f) ≡ None
 ScopeAt f (Some x) = HasScope f x.0 x.1
 
+-- Behind a node that ends there stand template arguments, and the node around them ends.
+pub record IsTemplate (f g : Front) : Type 0 where
+  pub behind : Front
+  pub left : IsLeft f behind
+  pub arguments : IsUpTo are_arguments behind g
+
+pub record IsNoTemplate (f : Front) : Type 0 where
+  pub behind : Front
+  pub left : IsLeft f behind
+  pub others : are_arguments (here behind) ≡ false
+
+abbrev pub TemplateAt : ℕ → Front → Option (ℕ × Front) → Type 0
+TemplateAt n f None = (ends_node f.marks.now ≡ false) ⊎ IsNoTemplate f
+TemplateAt n f (Some x) = (x.0 ≡ n) × IsTemplate f x.1
+
 -- ---- a whole printing
 abbrev pub places_of : Option ℕ × ℕ → Places
 places_of x = record { scope = x.0; end = x.1 }
@@ -100,6 +115,13 @@ MayCutAt (Some n) t = IsCharBoundary t n × IsCharBoundary t (n + 2)
 -- The scope, the base and what is behind them are the parts at these places, each of which is a text.
 pub record DividesAt (f : Front) (x : Option ℕ × ℕ) : Type 0 where
   pub parts : parts_at (places_of x) f.text.now ≡ cut (here f)
+  pub scope : MayCutAt x.0 f.text.now
+  pub order : base_from x.0 ≤ x.1
+  pub end : IsCharBoundary f.text.now x.1
+
+-- The same, or the whole text as base where the name has no parts.
+pub record DividesIf (has_parts : Bool) (f : Front) (x : Option ℕ × ℕ) : Type 0 where
+  pub parts : parts_at (places_of x) f.text.now ≡ cut_if has_parts (here f)
   pub scope : MayCutAt x.0 f.text.now
   pub order : base_from x.0 ≤ x.1
   pub end : IsCharBoundary f.text.now x.1

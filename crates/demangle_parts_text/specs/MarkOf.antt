@@ -15,3 +15,8 @@ abbrev pub mark_ends : Mark → Bool
 mark_ends (mark.Piece n) = false
 mark_ends (mark.Begins k) = false
 mark_ends mark.Ends = true
+
+abbrev pub is_piece : Mark → Bool
+is_piece (mark.Piece n) = true
+is_piece (mark.Begins k) = false
+is_piece mark.Ends = false

@@ -1,6 +1,6 @@
 -- What marks say of the text: the items at the front of it, and which node ends where.
-use Rattle.std.specs.Prelude.{◌≡◌, ℕ, zero, suc, ◌<◌, ◌||◌, ◌&&◌, Bool, true, false, List, [], ◌∷◌, ◌++◌, take, drop}
-use Rattle.std.specs.Prelude.{nat_le, nat_lt, option_map, Option, Some, None, is_some}
+use Rattle.std.specs.Prelude.{◌≡◌, ℕ, zero, suc, ◌||◌, ◌&&◌, Bool, true, false, List, [], ◌∷◌, ◌++◌, take, drop}
+use Rattle.std.specs.Prelude.{nat_le, nat_lt, Option, Some, None, is_some}
 use Rattle.demangle_printing.specs.Laws.{closes}
 use Rattle.demangle_meets.specs.Seen.{events_of}
 use Rattle.demangle_parts_text.specs.Heard.{calls, sizes}
@@ -43,12 +43,12 @@ all_end ms = is_some (ended ms)
 -- The first marks are those of whole nodes and pieces, and their pieces are the front of the text; these are what is
 -- behind them.
 pub record IsBehind (text : List ℕ) (marks : List Mark) (bytes : ℕ) (left : List ℕ) (behind : List Mark) : Type 0
-    where
-  pub within : List Mark
-  pub is : marks ≡ within ++ behind
-  pub closed : open_marks within (Some zero) ≡ Some zero
-  pub size : sizes within ≡ bytes
-  pub text_is : left ≡ drop bytes text
+  where
+    pub within : List Mark
+    pub is : marks ≡ within ++ behind
+    pub closed : open_marks within (Some zero) ≡ Some zero
+    pub size : sizes within ≡ bytes
+    pub text_is : left ≡ drop bytes text
 
 -- Here a node ends that began before, or all is at its end.
 abbrev pub is_end : List Mark → Bool

@@ -1,11 +1,11 @@
 //! Where the scope and the base of a name end in its text.
 
-ghost use Rattle.std.specs.Prelude.{◌≡◌, ◌≤◌, ◌<◌, ◌-◌, length, slice_index};
-ghost use Rattle.std.specs.Str.{IsUtf8};
+ghost use Rattle.std.specs.Prelude.{◌≡◌, ◌≤◌, ◌<◌, ◌-◌, codes, length, slice_index};
+ghost use Rattle.std.specs.Str.{IsUtf8, bytes_eq};
 ghost use Rattle.demangle_printing.specs.State.{nested_name};
-ghost use Rattle.demangle_parts_text.specs.Fronts.{DividesAt, ScopeAt, TextAt, UpTo, here};
+ghost use Rattle.demangle_parts_text.specs.Fronts.{DividesAt, DividesIf, ScopeAt, TemplateAt, TextAt, UpTo, here};
 ghost use Rattle.demangle_parts_text.specs.Items.{text_in};
-ghost use Rattle.demangle_parts_text.specs.Split.{ends_in_colons, opens};
+ghost use Rattle.demangle_parts_text.specs.Split.{colons, ends_in_colons, opens};
 ghost use Rattle.demangle_parts_text.specs.Walk.{are_arguments, arguments_size, is_closing, is_name};
 ghost use Rattle.demangle_parts_text.specs.Walk.{is_name_in_scope, node_first, scope_in_first};
 
@@ -19,6 +19,18 @@ fn opens(text: &[u8]) -> bool
     text == b"<".as_slice() || text == b" <".as_slice()
 }
 
+fn is_colons(text: &[u8]) -> bool
+    ensures { result ≡ bytes_eq text.now colons }
+{
+    text == b"::".as_slice()
+}
+
+fn is_std(text: &[u8]) -> bool
+    ensures { result ≡ bytes_eq text.now (codes "std::") }
+{
+    text == b"std::".as_slice()
+}
+
 fn ends_in_colons(text: &[u8]) -> bool
     ensures { result ≡ ends_in_colons text.now }
 {
@@ -30,10 +42,16 @@ fn ends_in_colons(text: &[u8]) -> bool
 fn name(front: Front<'_>) -> Option<Front<'_>>
     ensures { UpTo is_name front.entry result }
 {
-    let Some((_, behind)) = front.node_at(DemangleNodeType::UnqualifiedName) else {
-        return None;
-    };
-    if behind.is_at_end() { Some(behind) } else { None }
+    match front.node_at(DemangleNodeType::UnqualifiedName) {
+        None => None,
+        Some((_, behind)) => {
+            if behind.is_at_end() {
+                Some(behind)
+            } else {
+                None
+            }
+        }
+    }
 }
 
 /// `::`, a name, and nothing behind it in the node.
@@ -41,7 +59,7 @@ fn name_in_scope(front: Front<'_>) -> Option<Front<'_>>
     ensures { UpTo is_name_in_scope front.entry result }
 {
     let (size, behind) = front.text_at();
-    if front.first(size) != b"::".as_slice() {
+    if !is_colons(front.first(size)) {
         return None;
     }
     name(behind)
@@ -67,10 +85,10 @@ fn arguments(front: Front<'_>) -> Option<Front<'_>>
     if !opens(front.first(size)) {
         return None;
     }
-    let Some((_, behind)) = behind.node_at(DemangleNodeType::TemplateArgs) else {
-        return None;
-    };
-    closing(behind)
+    match behind.node_at(DemangleNodeType::TemplateArgs) {
+        None => None,
+        Some((_, behind)) => closing(behind),
+    }
 }
 
 /// The scope of a node that begins with a text of this size, not 0.
@@ -88,6 +106,19 @@ fn scope_in_text<'a>(front: Front<'a>, size: usize, behind: Front<'a>) -> Option
     }
 }
 
+/// The scope of a template is that of its name, where arguments stand behind the name's end.
+fn scope_of_template(scope: usize, end: Front<'_>) -> Option<(usize, Front<'_>)>
+    ensures { TemplateAt scope end.entry result }
+{
+    match end.leave() {
+        None => None,
+        Some(behind) => match arguments(behind) {
+            None => None,
+            Some(end) => Some((scope, end)),
+        },
+    }
+}
+
 /// How long the scope is in the text of the node in which the front stands, and where this node ends; `None` where it
 /// has no scope. Of a template's name the end is where its arguments begin, so no mark is looked at for each node that
 /// it stands in.
@@ -98,24 +129,18 @@ fn scope_in(front: Front<'_>) -> Option<(usize, Front<'_>)>
     if size > 0 {
         return scope_in_text(front, size, behind);
     }
-    if let Some((size, behind)) = front.node_at(DemangleNodeType::Prefix) {
-        return match name_in_scope(behind) {
+    match front.node_at(DemangleNodeType::Prefix) {
+        Some((size, behind)) => match name_in_scope(behind) {
             None => None,
             Some(end) => Some((size, end)),
-        };
-    }
-    let Some(within) = front.enter(DemangleNodeType::TemplatePrefix) else {
-        return None;
-    };
-    let Some((scope, end)) = scope_in(within) else {
-        return None;
-    };
-    let Some(behind) = end.leave() else {
-        return None;
-    };
-    match arguments(behind) {
-        None => None,
-        Some(end) => Some((scope, end)),
+        },
+        None => match front.enter(DemangleNodeType::TemplatePrefix) {
+            None => None,
+            Some(within) => match scope_in(within) {
+                None => None,
+                Some((scope, end)) => scope_of_template(scope, end),
+            },
+        },
     }
 }
 
@@ -123,12 +148,12 @@ fn scope_in(front: Front<'_>) -> Option<(usize, Front<'_>)>
 fn nested_scope(front: Front<'_>) -> Option<usize>
     ensures { result ≡ scope_in_first (node_first nested_name (here front.entry)) }
 {
-    let Some(within) = front.enter(DemangleNodeType::NestedName) else {
-        return None;
-    };
-    match scope_in(within) {
+    match front.enter(DemangleNodeType::NestedName) {
         None => None,
-        Some((scope, _)) => Some(scope),
+        Some(within) => match scope_in(within) {
+            None => None,
+            Some((scope, _)) => Some(scope),
+        },
     }
 }
 
@@ -154,7 +179,7 @@ fn arguments_size(front: Front<'_>) -> usize
 }
 
 /// Where the scope ends, if there is one, and where the base ends. No text is empty.
-pub(crate) fn divide(front: Front<'_>) -> (Option<usize>, usize)
+fn divide(front: Front<'_>) -> (Option<usize>, usize)
     requires text { IsUtf8 front.text.now }
     requires all { text_in (here front) ≡ front.text.now }
     ensures { DividesAt front.entry result }
@@ -162,7 +187,7 @@ pub(crate) fn divide(front: Front<'_>) -> (Option<usize>, usize)
     let whole = (None, front.text.len());
     let (size, behind) = front.text_at();
     if size > 0 {
-        if front.first(size) != b"std::".as_slice() {
+        if !is_std(front.first(size)) {
             return whole;
         }
         return match behind.node_at(DemangleNodeType::UnqualifiedName) {
@@ -170,11 +195,24 @@ pub(crate) fn divide(front: Front<'_>) -> (Option<usize>, usize)
             Some((name, behind)) => (Some(size - 2), size + name + arguments_size(behind)),
         };
     }
-    if let Some((name, behind)) = front.node_at(DemangleNodeType::UnqualifiedName) {
-        return (None, name + arguments_size(behind));
+    match front.node_at(DemangleNodeType::UnqualifiedName) {
+        Some((name, behind)) => (None, name + arguments_size(behind)),
+        None => match front.node_at(DemangleNodeType::NestedName) {
+            None => whole,
+            Some((end, _)) => (nested_scope(front), end),
+        },
     }
-    match front.node_at(DemangleNodeType::NestedName) {
-        None => whole,
-        Some((end, _)) => (nested_scope(front), end),
+}
+
+/// The same, or no scope and the whole text, where the name has no parts.
+pub(crate) fn divide_if(has_parts: bool, front: Front<'_>) -> (Option<usize>, usize)
+    requires text { IsUtf8 front.text.now }
+    requires all { text_in (here front) ≡ front.text.now }
+    ensures { DividesIf has_parts front.entry result }
+{
+    if has_parts {
+        divide(front)
+    } else {
+        (None, front.text.len())
     }
 }

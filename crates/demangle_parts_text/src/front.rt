@@ -49,29 +49,33 @@ impl<'a> Front<'a> {
     pub(crate) fn enter(self, kind: DemangleNodeType) -> Option<Front<'a>>
         ensures { Enters (kind_of kind) self.entry result }
     {
-        let Some((mark, marks)) = self.marks.split_first() else {
-            return None;
-        };
-        if !mark.begins(kind) {
-            return None;
+        match self.marks.split_first() {
+            None => None,
+            Some((mark, marks)) => {
+                if !mark.begins(kind) {
+                    return None;
+                }
+                Some(Front {
+                    text: self.text,
+                    marks,
+                })
+            }
         }
-        Some(Front {
-            text: self.text,
-            marks,
-        })
     }
 
     /// How many bytes stand in the node that begins here, and what is behind it; `None` where none of this kind does.
     pub(crate) fn node_at(self, kind: DemangleNodeType) -> Option<(usize, Front<'a>)>
         ensures { NodeAt (kind_of kind) self.entry result }
     {
-        let Some(within) = self.enter(kind) else {
-            return None;
-        };
-        let (count, bytes) = node_within(within.marks);
-        let (_, text) = within.text.split_at(bytes);
-        let (_, marks) = within.marks.split_at(count + 1);
-        Some((bytes, Front { text, marks }))
+        match self.enter(kind) {
+            None => None,
+            Some(within) => {
+                let (count, bytes) = node_within(within.marks);
+                let (_, text) = within.text.split_at(bytes);
+                let (_, marks) = within.marks.split_at(count + 1);
+                Some((bytes, Front { text, marks }))
+            }
+        }
     }
 
     /// Whether the node in which it stands ends here, or all does.
@@ -89,15 +93,17 @@ impl<'a> Front<'a> {
     pub(crate) fn leave(self) -> Option<Front<'a>>
         ensures { Leaves self.entry result }
     {
-        let Some((mark, marks)) = self.marks.split_first() else {
-            return None;
-        };
-        if !mark.ends() {
-            return None;
+        match self.marks.split_first() {
+            None => None,
+            Some((mark, marks)) => {
+                if !mark.ends() {
+                    return None;
+                }
+                Some(Front {
+                    text: self.text,
+                    marks,
+                })
+            }
         }
-        Some(Front {
-            text: self.text,
-            marks,
-        })
     }
 }

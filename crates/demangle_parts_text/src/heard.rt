@@ -4,7 +4,7 @@ ghost use Rattle.std.specs.Prelude.{◌≡◌, Some, [], true, length, string_by
 ghost use Rattle.demangle_parts_text.specs.Heard.{sizes, told_calls};
 ghost use Rattle.demangle_parts_text.specs.Marks.{begin_chars};
 
-use crate::divide::divide;
+use crate::divide::divide_if;
 use crate::divided::Divided;
 use crate::front::Front;
 use crate::mark::{Kept, Mark, keep};
@@ -55,11 +55,7 @@ impl Heard {
             text: text.as_str().as_bytes(),
             marks: marks.as_slice(),
         };
-        let (scope, end) = if has_parts {
-            divide(front)
-        } else {
-            (None, text.len())
-        };
+        let (scope, end) = divide_if(has_parts, front);
         drop(marks);
         Some(Divided { text, scope, end })
     }

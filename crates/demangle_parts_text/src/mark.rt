@@ -1,6 +1,7 @@
 //! What a listener keeps of a call.
 
 ghost use Rattle.std.specs.Prelude.{◌≡◌, ◌++◌, ◌∷◌, [], true, false, length, string_bytes};
+ghost use Rattle.std.specs.Str.{IsUtf8};
 ghost use Rattle.demangle_context.specs.Kinds.{kind_of};
 ghost use Rattle.demangle_parts_text.specs.Walk.{kind_code};
 
@@ -65,12 +66,17 @@ pub(crate) struct Kept {
 
 /// Keeps a piece, and answers whether there was memory for it.
 pub(crate) fn keep(kept: &mut Kept, piece: &str) -> bool
+    ensures utf8 { IsUtf8 piece.now }
     ensures text { result ≡ true → string_bytes kept.new.text ≡ string_bytes kept.old.text ++ piece.now }
     ensures marks { result ≡ true → kept.new.marks.items ≡ kept.old.marks.items ++ (Mark.Piece (length piece.now) ∷ []) }
     ensures other_text { result ≡ false → string_bytes kept.new.text ≡ string_bytes kept.old.text }
     ensures other_marks { result ≡ false → kept.new.marks.items ≡ kept.old.marks.items }
 {
-    if kept.marks.push(Mark::Piece(piece.len())).is_err() {
+    if kept
+        .marks
+        .push(Mark::Piece(piece.as_bytes().len()))
+        .is_err()
+    {
         return false;
     }
     if kept.text.push_str(piece).is_err() {

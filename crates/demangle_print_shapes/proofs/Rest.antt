@@ -1,5 +1,5 @@
 -- What is one of some kinds, and none of the first of them, is one of the others.
-use Rattle.std.proofs.Common.{◌≡◌, sym, ◌∙◌, ap, Bool, true, ◌||◌, List, [], ◌∷◌, ◌++◌}
+use Rattle.std.proofs.Common.{◌≡◌, sym, ◌∙◌, ap, true, ◌||◌, List, [], ◌∷◌, ◌++◌}
 use Rattle.demangle_core.specs.Core.{Tag, code}
 use Rattle.demangle_nodes.specs.declared.nodes.Expression.{Expression}
 use Rattle.demangle_nodes.proofs.Other.{NotExpression, other_expression}

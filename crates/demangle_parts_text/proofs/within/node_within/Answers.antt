@@ -2,7 +2,7 @@ use Rattle.std.proofs.Common.{◌<◌, Some, ap, arith, refl, rules, sym, tests,
 use Rattle.demangle_parts_text.specs.Heard.{sizes}
 use Rattle.demangle_parts_text.specs.Marks.{open_marks}
 use Rattle.demangle_parts_text.specs.declared.mark.Mark.TheVariants as mark
-use Rattle.demangle_parts_text.proofs.MarkLaws.{closes-some, open-more, size-more, size-within}
+use Rattle.demangle_parts_text.proofs.MarkLaws.{closes-some, never-open, open-more, size-more, size-within}
 use Rattle.demangle_parts_text.proofs.within.node_within.Goals as goal
 use Rattle.demangle_parts_text.proofs.within.node_within.Goals.{in-Piece, in-Begins, in-Ends+else-open-eq0}
 
@@ -58,3 +58,7 @@ loop-i-preserved c =
             few = omega arith;
           }
     ]
+
+pub unreachable-requires : goal.unreachable-requires
+unreachable-requires c =
+    never-open c.args.marks.now c.loop-i.i c.loop-i.open c.loop-i-test.false c.loop-i.invariant.is_open c.requires.ends

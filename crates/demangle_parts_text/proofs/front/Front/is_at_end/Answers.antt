@@ -1,4 +1,4 @@
-use Rattle.std.proofs.Common.{◌≡◌, ◌∙◌, ap, sym, refl, true}
+use Rattle.std.proofs.Common.{◌∙◌, ap, sym}
 use Rattle.demangle_parts_text.specs.Marks.{is_end}
 use Rattle.demangle_parts_text.proofs.FrontLaws.{end-none, no-mark}
 use Rattle.demangle_parts_text.proofs.front.Front.is_at_end.Goals as goal
