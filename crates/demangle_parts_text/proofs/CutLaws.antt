@@ -90,7 +90,8 @@ named-joins s base (text t (node template_args a (text g m))) =
     ∙ ap (λ l. in_scope s base ++ l)
     (append_assoc t (text_in a ++ take 1 g) (drop 1 g ++ text_in m)
     ∙ ap (λ l. t ++ l) (append_assoc (text_in a) (take 1 g) (drop 1 g ++ text_in m)
-    ∙ ap (λ l. text_in a ++ l) (sym (append_assoc (take 1 g) (drop 1 g) (text_in m)) ∙ ap (λ l. l ++ text_in m) parts))))
+    ∙ ap (λ l. text_in a ++ l) (sym (append_assoc (take 1 g) (drop 1 g) (text_in m))
+    ∙ ap (λ l. l ++ text_in m) parts))))
     refl
 named-joins s base other = refl
 

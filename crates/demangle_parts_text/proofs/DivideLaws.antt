@@ -1,6 +1,8 @@
 -- Laws on what the functions that divide a text answer.
-use Rattle.std.proofs.Common.{◌≡◌, ℕ, zero, suc, ◌+◌, ◌-◌, ◌≤◌, ◌<◌, ◌&&◌, ◌||◌, Bool, true, false, List, [], ◌∷◌, ◌++◌, length}
-use Rattle.std.proofs.Common.{take, drop, get_or, refl, sym, ap, ◌∙◌, arith, Some, None, append_assoc, append-nil, subst}
+use Rattle.std.proofs.Common.{◌≡◌, ℕ, zero, suc, ◌+◌, ◌-◌, ◌≤◌, ◌<◌, ◌&&◌, ◌||◌, Bool, true, false, List, [], ◌∷◌}
+use Rattle.std.proofs.Common.{◌++◌, length}
+use Rattle.std.proofs.Common.{take, drop, get_or, refl, sym, ap, ◌∙◌, arith, Some, None, append_assoc, append-nil}
+use Rattle.std.proofs.Common.{subst}
 use Rattle.std.proofs.Common.{inl, inr, nat_eq, nat_lt, nat_le, rules, tests}
 use Rattle.std.proofs.lemmas.Grind.{common_steps}
 use Rattle.std.proofs.lemmas.List.{get_or-drop, take-append-le}
@@ -13,7 +15,8 @@ use Rattle.std.specs.Str.{IsCharBoundary, IsUtf8, bytes_eq}
 use Rattle.demangle_printing.specs.State.{nested_name, prefix, template_args, template_prefix, unqualified_name}
 use Rattle.demangle_printing.specs.Laws.{AreClosed}
 use Rattle.demangle_meets.specs.Seen.{HaveText, events_of}
-use Rattle.demangle_parts_text.specs.Fronts.{Behind, DividesAt, DividesIf, EndsAt, HasScope, IsLeft, IsUpTo, IsTemplate, IsWithin, MayCutAt}
+use Rattle.demangle_parts_text.specs.Fronts.{Behind, DividesAt, DividesIf, EndsAt, HasScope, IsLeft, IsUpTo}
+use Rattle.demangle_parts_text.specs.Fronts.{IsTemplate, IsWithin, MayCutAt}
 use Rattle.demangle_parts_text.specs.Fronts.{NodeIs, ScopeAt, TemplateAt, TextAt, UpTo, ends_node, here}
 use Rattle.demangle_parts_text.specs.Divided.{IsCutOf, IsWhole}
 use Rattle.demangle_parts_text.specs.Heard.{calls, sizes, told_calls}
@@ -24,7 +27,8 @@ use Rattle.demangle_parts_text.specs.Marks.{all_end, begin_chars, begins_char, e
 use Rattle.demangle_parts_text.specs.Marks.{open_marks}
 use Rattle.demangle_parts_text.specs.Split.{Cut, choose_cut, colons, cut, cut_at, cut_if, ends_in_colons, named, opens}
 use Rattle.demangle_parts_text.specs.Walk.{are_arguments, arguments_size, base_from, closes_behind, count_if}
-use Rattle.demangle_parts_text.specs.Walk.{is_closing, is_name, is_name_in_scope, node_first, not_text, parts_at, scope_in}
+use Rattle.demangle_parts_text.specs.Walk.{is_closing, is_name, is_name_in_scope, node_first, not_text, parts_at}
+use Rattle.demangle_parts_text.specs.Walk.{scope_in}
 use Rattle.demangle_parts_text.specs.Walk.{scope_in_first, when, with_text}
 use Rattle.demangle_parts_text.specs.declared.divided.Divided.{Divided}
 use Rattle.demangle_parts_text.specs.declared.front.Front.{Front}
@@ -37,7 +41,8 @@ use Rattle.demangle_parts_text.proofs.ItemLaws.{keeps}
 use Rattle.demangle_parts_text.proofs.MarkLaws.{calls-text, ended-open}
 use Rattle.demangle_parts_text.proofs.MarkLaws.{opens as opens-as}
 use Rattle.demangle_parts_text.proofs.WalkLaws.{IsWithinText, arguments-behind, both-false, both-true, name-behind}
-use Rattle.demangle_parts_text.proofs.WalkLaws.{scope-first, scope-none, scope-parts, scope-prefix, scope-text, scope-within}
+use Rattle.demangle_parts_text.proofs.WalkLaws.{scope-first, scope-none, scope-parts, scope-prefix, scope-text}
+use Rattle.demangle_parts_text.proofs.WalkLaws.{scope-within}
 use Rattle.demangle_parts_text.proofs.WalkLaws.{split-by, split_at}
 
 -- ---- up to an end
@@ -146,7 +151,8 @@ when-none false = refl
 pub no-scope-within : (f w : Front) → IsWithin template_prefix f w → scope_in (here w) ≡ None
     → scope_in (here f) ≡ None
 no-scope-within f w h e =
-    scope-first (here f) (here w) h.others h.is ∙ ap (when (are_arguments h.others)) e ∙ when-none (are_arguments h.others)
+    scope-first (here f) (here w) h.others h.is ∙ ap (when (are_arguments h.others)) e
+    ∙ when-none (are_arguments h.others)
 
 is-ends : (m : Mark) → mark_ends m ≡ true → m ≡ mark.Ends
 is-ends (mark.Piece n) e = absurd cc
@@ -194,7 +200,8 @@ left-node f w e g n h s l =
     record {
       bytes = s.ends.bytes;
       behind =
-          behind-node template_prefix t f.marks.now h.first v ns s.ends.bytes g.text.now h.begins all b.closed b.size left;
+          behind-node template_prefix t f.marks.now h.first v ns s.ends.bytes g.text.now h.begins all b.closed b.size
+          left;
       is =
           ap (λ x. node_first template_prefix (items_of t x)) all
           ∙ node-at template_prefix t h.first v ns h.begins b.closed
@@ -307,7 +314,8 @@ named-places s base (text t (node template_args a (text g m))) =
 named-places s base none = named-none s base [] 0 refl
 named-places s base (node k w m) = named-none s base (text_in w ++ text_in m) 0 refl
 named-places s base (text t none) = named-none s base (t ++ []) (count_if (opens t) 0) (no-count (opens t))
-named-places s base (text t (text u m)) = named-none s base (t ++ (u ++ text_in m)) (count_if (opens t) 0) (no-count (opens t))
+named-places s base (text t (text u m)) = named-none s base (t ++ (u ++ text_in m)) (count_if (opens t) 0) (no-count
+    (opens t))
 named-places s base (text t (node template_args a none)) =
     named-none s base (t ++ (text_in a ++ [])) (count_if (opens t) 0) (no-count (opens t))
 named-places s base (text t (node template_args a (node k w m))) =
@@ -335,10 +343,12 @@ abbrev std : List ℕ
 std = codes "std"
 
 std-places : (u m : List ℕ) (n : ℕ)
-    → parts_at (record { scope = Some 3; end = 5 + length u + n }) (codes "std::" ++ (u ++ m)) ≡ named_by (Some std) u n m
+    → parts_at (record { scope = Some 3; end = 5 + length u + n }) (codes "std::" ++ (u ++ m)) ≡ named_by (Some std)
+    u n m
 std-places u m n =
     let more : 5 + length u + n ≡ 5 + (length u + n) = omega arith in
-    let front = take-append-add (codes "std::") (u ++ m) (length u + n) ∙ ap (λ l. codes "std::" ++ l) (take-append-add u m n)
+    let front = take-append-add (codes "std::") (u ++ m) (length u + n)
+    ∙ ap (λ l. codes "std::" ++ l) (take-append-add u m n)
     in
     let back = drop-append-add (codes "std::") (u ++ m) (length u + n) ∙ drop-append-add u m n in
     rw (more, front, back) refl
@@ -397,9 +407,13 @@ boundary-behind f g n h few =
     let t = f.text.now in
     let first = char-first g.text.now g.marks.now g.characters g.whole in
     let same : get_or g.text.now 0 0 ≡ get_or t n 0 =
-    ap (λ l. get_or l 0 0) h.text_is ∙ get_or-drop n t 0 0 ∙ (let z : n + 0 ≡ n = omega arith in ap (λ k. get_or t k 0) z)
-    in
-    (few, λ inside high. subst (λ x. 192 ≤ x) same (high-at-front g.text.now first (subst (λ x. 128 ≤ x) (sym same) high)))
+    ap (λ l. get_or l 0 0) h.text_is ∙ get_or-drop n t 0 0 ∙ (let z : n + 0 ≡ n = omega arith in ap (λ k. get_or t k
+    0) z)
+    in (
+      few,
+      λ inside high. subst (λ x. 192 ≤ x) same (high-at-front g.text.now first (subst (λ x. 128 ≤ x) (sym same)
+          high)),
+    )
 
 boundary-after : (t : List ℕ) (n : ℕ) → IsUtf8 t → 0 < n → n ≤ length t → get_or t (n - 1) 0 ≡ 62 → IsCharBoundary t n
 boundary-after t n u some few e =

@@ -10,7 +10,8 @@ use Rattle.demangle_parts_text.specs.Fronts.{IsWithin, NodeIs, TextAt, ends_node
 use Rattle.demangle_parts_text.specs.Heard.{sizes}
 use Rattle.demangle_parts_text.specs.Items.{Items, byte_before, node, none, text}
 use Rattle.demangle_parts_text.specs.MarkOf.{begins_kind, is_piece, mark_ends}
-use Rattle.demangle_parts_text.specs.Marks.{IsBehind, all_end, are_pieces, begin_chars, begins_char, begins_with_piece, ended, is_end}
+use Rattle.demangle_parts_text.specs.Marks.{IsBehind, all_end, are_pieces, begin_chars, begins_char}
+use Rattle.demangle_parts_text.specs.Marks.{begins_with_piece, ended, is_end}
 use Rattle.demangle_parts_text.specs.Marks.{items_of, one_less, open_marks}
 use Rattle.demangle_parts_text.specs.Walk.{is_none, kind_code, node_first, not_text, when, with_text}
 use Rattle.demangle_parts_text.specs.declared.front.Front.{Front}
@@ -19,7 +20,8 @@ use Rattle.demangle_parts_text.specs.declared.mark.Mark.TheVariants as mark
 use Rattle.demangle_parts_text.proofs.HeardLaws.{sizes-append}
 use Rattle.demangle_parts_text.proofs.ItemLaws.{bytes_before}
 use Rattle.demangle_parts_text.proofs.MarkLaws.{chars-behind, end-behind, here-begins, here-end, here-node, here-none}
-use Rattle.demangle_parts_text.proofs.MarkLaws.{begins-end, bytes-text-before, here-piece, here-text, lift-one, no-text-front}
+use Rattle.demangle_parts_text.proofs.MarkLaws.{begins-end, bytes-text-before, here-piece, here-text, lift-one}
+use Rattle.demangle_parts_text.proofs.MarkLaws.{no-text-front}
 use Rattle.demangle_parts_text.proofs.MarkLaws.{open-append, pieces-close, size-more, sizes-behind, text-run}
 
 -- ---- the first mark

@@ -5,7 +5,8 @@ use Rattle.std.proofs.Common.{Some, None, map}
 use Rattle.demangle_printing.specs.State.{Kind, Event, byte, opened, closed}
 use Rattle.demangle_printing.specs.Laws.{open_behind}
 use Rattle.demangle_printing.specs.Outcome.{text_of}
-use Rattle.demangle_parts_text.specs.Items.{Items, none, text, node, before_top, began, byte_before, items, levels, text_in, top}
+use Rattle.demangle_parts_text.specs.Items.{Items, none, text, node, before_top, began, byte_before, items, levels}
+use Rattle.demangle_parts_text.specs.Items.{text_in, top}
 use Rattle.demangle_parts_text.specs.Laws.{KeepsText}
 
 -- ---- the text of all levels

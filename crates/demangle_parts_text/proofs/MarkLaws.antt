@@ -80,7 +80,8 @@ events-append (begins k ∷ cs) ds = ap (λ l. opened k ∷ l) (events-append cs
 events-append (ends ∷ cs) ds = ap (λ l. closed ∷ l) (events-append cs ds)
 
 -- bytes open and close nothing
-open-bytes : (bs : List ℕ) (es : List Event) (n : ℕ) → open_behind (map byte bs ++ es) (Some n) ≡ open_behind es (Some n)
+open-bytes : (bs : List ℕ) (es : List Event) (n : ℕ) → open_behind (map byte bs ++ es) (Some n) ≡ open_behind es
+    (Some n)
 open-bytes [] es n = refl
 open-bytes (b ∷ bs) es n = open-bytes bs es n
 
@@ -285,7 +286,8 @@ unfolding calls
 here-piece t n ms = text-front (take n t) (events_of (calls (drop n t) ms))
 
 calls-node : (t : List ℕ) (w ms : List Mark)
-    → events_of (calls t (w ++ mark.Ends ∷ ms)) ≡ events_of (calls t w) ++ closed ∷ events_of (calls (drop (sizes w) t) ms)
+    → events_of (calls t (w ++ mark.Ends ∷ ms)) ≡ events_of (calls t w) ++ closed ∷ events_of (calls (drop (sizes w)
+    t) ms)
 unfolding calls
 calls-node t w ms =
     ap events_of (calls-append t w (mark.Ends ∷ ms))

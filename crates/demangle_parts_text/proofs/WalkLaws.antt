@@ -34,7 +34,8 @@ when-within false o t h = tt
 
 more-within : (o : Option ℕ) (t more : List ℕ) → IsWithinText o t → IsWithinText o (t ++ more)
 more-within None t more h = tt
-more-within (Some n) t more h = let both : length (t ++ more) ≡ length t + length more = grind (arith, common_steps) in omega arith
+more-within (Some n) t more h = let both : length (t ++ more) ≡ length t + length more = grind (arith, common_steps)
+    in omega arith
 
 at-least-two : (t : List ℕ) → ends_in_colons t ≡ true → 2 ≤ length t
 at-least-two t e =

@@ -6,7 +6,8 @@ use Rattle.demangle_parts_text.specs.Items.{Items, text_in}
 use Rattle.demangle_parts_text.specs.MarkOf.{begins_kind, mark_ends}
 use Rattle.demangle_parts_text.specs.Marks.{IsBehind, is_end, items_of}
 use Rattle.demangle_parts_text.specs.Split.{cut, cut_if}
-use Rattle.demangle_parts_text.specs.Walk.{Places, are_arguments, base_from, node_first, not_text, parts_at, scope_in, with_text}
+use Rattle.demangle_parts_text.specs.Walk.{Places, are_arguments, base_from, node_first, not_text, parts_at, scope_in}
+use Rattle.demangle_parts_text.specs.Walk.{with_text}
 use Rattle.demangle_parts_text.specs.declared.front.Front.{Front}
 use Rattle.demangle_parts_text.specs.declared.mark.Mark.{Mark}
 

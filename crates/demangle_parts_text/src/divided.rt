@@ -5,8 +5,8 @@ ghost use Rattle.std.specs.Option.{ForSome};
 ghost use Rattle.std.specs.Str.{IsCharBoundary};
 ghost use Rattle.demangle_parts_text.specs.Walk.{base_from};
 
-/// A printed name in three parts: its scope, where it has one, its base, and what is behind the base. They are ranges of
-/// one text, in which `::` stands between the scope and the base.
+/// A printed name in three parts: its scope, where it has one, its base, and what is behind the base. They are ranges
+/// of one text, in which `::` stands between the scope and the base.
 #[derive(Drop, Debug)]
 pub struct Divided {
     pub(crate) text: String,

@@ -68,7 +68,8 @@ pub(crate) struct Kept {
 pub(crate) fn keep(kept: &mut Kept, piece: &str) -> bool
     ensures utf8 { IsUtf8 piece.now }
     ensures text { result ≡ true → string_bytes kept.new.text ≡ string_bytes kept.old.text ++ piece.now }
-    ensures marks { result ≡ true → kept.new.marks.items ≡ kept.old.marks.items ++ (Mark.Piece (length piece.now) ∷ []) }
+    ensures marks { result ≡ true
+        → kept.new.marks.items ≡ kept.old.marks.items ++ (Mark.Piece (length piece.now) ∷ []) }
     ensures other_text { result ≡ false → string_bytes kept.new.text ≡ string_bytes kept.old.text }
     ensures other_marks { result ≡ false → kept.new.marks.items ≡ kept.old.marks.items }
 {

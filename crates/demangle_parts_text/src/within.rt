@@ -1,6 +1,7 @@
 //! Where a node and a run of text end among marks.
 
-ghost use Rattle.std.specs.Prelude.{true, false, zero, length, take, drop, ◌≡◌, ◌≤◌, ◌<◌, ◌^◌, Some, is_some, slice_index_or};
+ghost use Rattle.std.specs.Prelude.{true, false, zero, length, take, drop, ◌≡◌, ◌≤◌, ◌<◌, ◌^◌, Some, is_some};
+ghost use Rattle.std.specs.Prelude.{slice_index_or};
 ghost use Rattle.demangle_parts_text.specs.Heard.{sizes};
 ghost use Rattle.demangle_parts_text.specs.Marks.{are_pieces, begins_with_piece, ended, one_less, open_marks};
 

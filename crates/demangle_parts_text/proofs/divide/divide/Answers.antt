@@ -15,7 +15,8 @@ pub returns-in-Some-node_at : goal.returns-in-Some-node_at
 returns-in-Some-node_at c =
     let a = c.arguments_size-in-Some-node_at.ensures in
     divides-name c.args.front c.in-Some-node_at.behind c.in-Some-node_at.name
-    c.arguments_size-in-Some-node_at.result c.requires.text c.requires.all c.in-Some-node_at.ensures a.size a.within a.end
+    c.arguments_size-in-Some-node_at.result c.requires.text c.requires.all c.in-Some-node_at.ensures a.size a.within
+    a.end
 
 pub returns-in-Some-node_at-2 : goal.returns-in-Some-node_at-2
 returns-in-Some-node_at-2 c =

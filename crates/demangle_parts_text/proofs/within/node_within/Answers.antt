@@ -12,7 +12,8 @@ loop-i-init c = record { is_open = refl; size = refl; few = omega arith }
 
 pub overflow_add-bytes : goal.overflow_add-bytes
 overflow_add-bytes c =
-    let small = size-within c.args.marks.now c.loop-i.i c.in-Piece.size _ c.loop-i.bytes c.loop-i-test.true c.in-Piece.is
+    let small = size-within c.args.marks.now c.loop-i.i c.in-Piece.size _ c.loop-i.bytes c.loop-i-test.true
+    c.in-Piece.is
     c.loop-i.invariant.size in
     let all = c.requires in
     omega arith
@@ -37,11 +38,13 @@ loop-i-preserved c =
             few = omega arith;
           }
       | in-Begins w ↦
-          let sized = size-more ms i (mark.Begins w.in-Begins.field-0) _ c.loop-i.bytes within w.in-Begins.is inv.size in
+          let sized = size-more ms i (mark.Begins w.in-Begins.field-0) _ c.loop-i.bytes within w.in-Begins.is
+          inv.size in
           let now = w.bytes-is in
           let more = w.open-is in record {
             is_open =
-                open-more ms i (mark.Begins w.in-Begins.field-0) _ (Some c.loop-i.open) within w.in-Begins.is inv.is_open
+                open-more ms i (mark.Begins w.in-Begins.field-0) _ (Some c.loop-i.open) within w.in-Begins.is
+                inv.is_open
                 ∙ ap (λ x. Some x) (omega arith);
             size = omega arith;
             few = omega arith;

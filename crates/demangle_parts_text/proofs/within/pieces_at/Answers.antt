@@ -11,7 +11,8 @@ loop-i-init c = record { size = refl; pieces = refl }
 
 pub overflow_add-bytes : goal.overflow_add-bytes
 overflow_add-bytes c =
-    let small = size-within c.args.marks.now c.loop-i.i c.in-Piece.size _ c.loop-i.bytes c.loop-i-test.true c.in-Piece.is
+    let small = size-within c.args.marks.now c.loop-i.i c.in-Piece.size _ c.loop-i.bytes c.loop-i-test.true
+    c.in-Piece.is
     c.loop-i.invariant.size in
     let all = c.requires in
     omega arith

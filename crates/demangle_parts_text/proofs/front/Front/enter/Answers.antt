@@ -1,7 +1,8 @@
 use Rattle.std.proofs.Common.{◌≡◌, ◌∙◌, refl, sym, true}
 use Rattle.demangle_context.specs.Kinds.{kind_of}
 use Rattle.demangle_parts_text.specs.MarkOf.{begins_kind}
-use Rattle.demangle_parts_text.proofs.FrontLaws.{begins-no-piece, chars-step, end-step, no-node, no-node-at-end, sizes-step}
+use Rattle.demangle_parts_text.proofs.FrontLaws.{begins-no-piece, chars-step, end-step, no-node, no-node-at-end}
+use Rattle.demangle_parts_text.proofs.FrontLaws.{sizes-step}
 use Rattle.demangle_parts_text.proofs.FrontLaws.{within-is}
 use Rattle.demangle_parts_text.proofs.front.Front.enter.Goals as goal
 

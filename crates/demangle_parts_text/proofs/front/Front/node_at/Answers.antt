@@ -1,7 +1,8 @@
 use Rattle.std.proofs.Common.{◌+◌}
 use Rattle.demangle_context.specs.Kinds.{kind_of}
 use Rattle.demangle_parts_text.specs.declared.mark.Mark.TheVariants as mark
-use Rattle.demangle_parts_text.proofs.FrontLaws.{begun-ends, node-is, rest-chars, rest-end, rest-sizes, taken-fits, with-end}
+use Rattle.demangle_parts_text.proofs.FrontLaws.{begun-ends, node-is, rest-chars, rest-end, rest-sizes, taken-fits}
+use Rattle.demangle_parts_text.proofs.FrontLaws.{with-end}
 use Rattle.demangle_parts_text.proofs.front.Front.node_at.Goals as goal
 
 pub node_within-count-requires-clause-ends : goal.node_within-count-requires-clause-ends

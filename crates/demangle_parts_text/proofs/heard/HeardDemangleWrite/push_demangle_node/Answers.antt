@@ -7,7 +7,8 @@ pub invariant_of-self-else-is_err : goal.invariant_of-self-else-is_err
 invariant_of-self-else-is_err c = record {
   whole = sizes-begins _ c.args.kind c.args.self.now.kept.marks.items _ _ c.push.ensures.items c.args.self.now.whole;
   characters =
-      chars-mark _ (string_bytes c.args.self.now.kept.text) (mark.Begins c.args.kind) c.args.self.now.kept.marks.items _ refl
+      chars-mark _ (string_bytes c.args.self.now.kept.text) (mark.Begins c.args.kind)
+      c.args.self.now.kept.marks.items _ refl
       c.push.ensures.items c.args.self.now.characters;
 }
 

@@ -6,10 +6,12 @@ pub invariant_of-self : goal.invariant_of-self
 invariant_of-self c =
     let kept = c.args.self.now.kept in
     let k = c.keep.ensures in record {
-      whole = sizes-piece c.keep.result (string_bytes kept.text) c.args.s.now _ kept.marks.items _ c.args.self.now.whole k.text
+      whole = sizes-piece c.keep.result (string_bytes kept.text) c.args.s.now _ kept.marks.items _
+          c.args.self.now.whole k.text
           k.marks k.other_text k.other_marks;
       characters =
-          chars-kept c.keep.result (string_bytes kept.text) c.args.s.now _ kept.marks.items _ c.args.self.now.whole k.utf8
+          chars-kept c.keep.result (string_bytes kept.text) c.args.s.now _ kept.marks.items _ c.args.self.now.whole
+          k.utf8
           c.args.self.now.characters k.text k.marks k.other_text k.other_marks;
     }
 
