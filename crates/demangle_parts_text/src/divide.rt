@@ -120,7 +120,7 @@ fn scope_of_template(scope: usize, end: Front<'_>) -> Option<(usize, Front<'_>)>
 }
 
 /// How long the scope is in the text of the node in which the front stands, and where this node ends; `None` where it
-/// has no scope. Of a template's name the end is where its arguments begin, so no mark is looked at for each node that
+/// has no scope. The end of a template's name is where its arguments begin, so no node is walked again for each that
 /// it stands in.
 fn scope_in(front: Front<'_>) -> Option<(usize, Front<'_>)>
     ensures { ScopeAt front.entry result }
@@ -178,7 +178,7 @@ fn arguments_size(front: Front<'_>) -> usize
     }
 }
 
-/// Where the scope ends, if there is one, and where the base ends. No text is empty.
+/// Where the scope ends, if there is one, and where the base ends.
 fn divide(front: Front<'_>) -> (Option<usize>, usize)
     requires text { IsUtf8 front.text.now }
     requires all { text_in (here front) ≡ front.text.now }
