@@ -1,0 +1,7 @@
+mod CutLaws
+mod HeardLaws
+mod ItemLaws
+mod MarkLaws
+mod WalkLaws
+mod FrontLaws
+mod DivideLaws

@@ -1,0 +1,9 @@
+pub mod Divided
+pub mod Fronts
+pub mod Heard
+pub mod Items
+pub mod Laws
+pub mod MarkOf
+pub mod Marks
+pub mod Split
+pub mod Walk
