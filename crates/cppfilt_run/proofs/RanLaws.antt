@@ -96,7 +96,7 @@ helped-as WriteFault res w0 w k f = inr (inl k)
 helped-as OutOfMemory res w0 w k f = inr (inr k)
 helped-as _ res w0 w k f = absurd f
 
-counts : {s : Status} {o : FilterOptions} {limit r0 r w0 w t0 t g : ℕ} {left0 left out0 out : Option (List ℕ)}
+pub counts : {s : Status} {o : FilterOptions} {limit r0 r w0 w t0 t g : ℕ} {left0 left out0 out : Option (List ℕ)}
     → Stopped o s limit r0 r w0 w t0 t g left0 left out0 out → Counts s limit r0 r w0 w t0 t left0 left
 counts st = record { faults = st.faults; amount = st.amount }
 
@@ -287,7 +287,7 @@ module _ (s res : Status) (r0 r w0 w t0 t g : ℕ) (left0 left out0 out : Option
   ran-lines v p o is = asks v o lines is p
 
 -- at the end of the input
-stopped-end : (s : Status) {o : FilterOptions} {limit r0 r w0 w t0 t g : ℕ} {left0 left out0 out : Option (List ℕ)}
+pub stopped-end : (s : Status) {o : FilterOptions} {limit r0 r w0 w t0 t g : ℕ} {left0 left out0 out : Option (List ℕ)}
     → Stopped o s limit r0 r w0 w t0 t g left0 left out0 out → s ≡ Done → IsAtEnd left
 stopped-end Done st e = st.written.0
 stopped-end _ st e = absurd cc

@@ -4,7 +4,8 @@ ghost use Rattle.std.specs.Prelude.{◌≡◌, ◌≢◌, ◌⊎◌, ◌+◌, �
 ghost use Rattle.std.specs.Prelude.{IfOk, IfSome, string_bytes};
 ghost use Rattle.std.specs.Io.KnownBytes.{Appends, IsAtEnd};
 ghost use Rattle.std.specs.List.{All};
-ghost use Rattle.cppfilt_command.specs.Asked.{AsksHelp, Asks, Mistaken, judgement, verdict_on};
+ghost use Rattle.cppfilt_command.specs.Asked.{AsksHelp, Asks, Mistaken, judgement_by, verdict_on};
+ghost use Rattle.cppfilt_command.specs.Command.{command};
 ghost use Rattle.cppfilt_command.specs.Refusals.{work_of};
 ghost use Rattle.cppfilt_ends.specs.Causes.{Rose, NoFault};
 ghost use Rattle.cppfilt_ends.specs.Moves.{Begins};
@@ -148,9 +149,10 @@ fn run_judged<R: Source, W: Sink, E: Sink>(
     output: &mut W,
     errors: &mut E,
 ) -> Status
-    ensures ended { Ended (judgement (map string_bytes all.now)) result (R.faults input.old) (R.faults input.new)
-        (W.faults output.old) (W.faults output.new) (R.taken input.old) (R.taken input.new) (R.last input.new)
-        (R.left input.old) (R.left input.new) (W.written output.old) (W.written output.new) }
+    ensures ended { Ended (judgement_by command (map string_bytes all.now)) result
+        (R.faults input.old) (R.faults input.new) (W.faults output.old) (W.faults output.new)
+        (R.taken input.old) (R.taken input.new) (R.last input.new) (R.left input.old) (R.left input.new)
+        (W.written output.old) (W.written output.new) }
     ensures message { NoFault (E.faults errors.old) (E.faults errors.new) → result ≢ Status.OutOfMemory
         → result ≢ Status.Usage → Appends (E.written errors.old) (E.written errors.new) (message_of result) }
 {

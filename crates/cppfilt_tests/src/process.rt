@@ -9,6 +9,7 @@ use std::process::{ExitCode, Termination};
 use std::test::Fail;
 
 /// An environment with these words, of which the first is the program's name, and nothing else.
+#[derive(Drop)]
 struct Words {
     all: &'static [&'static [u8]],
 }
