@@ -56,7 +56,10 @@ fn round_trip(
 /// The function of the README.
 fn shapes_area(alloc: Global) -> Result<Decl, Fail> {
     let area = vec![in alloc; Ident::new(alloc, b"shapes")?, Ident::new(alloc, b"area")?]?;
-    let circle = vec![in alloc; Ident::new(alloc, b"shapes")?, Ident::new(alloc, b"Circle")?]?;
+    let circle = vec![in alloc;
+        Ident::new(alloc, b"shapes")?,
+        Ident::new(alloc, b"Circle")?,
+    ]?;
     let constant = DeclType::Const(Box::new(alloc, DeclType::Class(Path::new(circle)?))?);
     let params = vec![in alloc; DeclType::Ref(Box::new(alloc, constant)?)]?;
     Ok(Decl::new(Path::new(area)?, params)?)
