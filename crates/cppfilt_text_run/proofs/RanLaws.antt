@@ -175,32 +175,32 @@ module _ {v : Verdict} {res : Status} {r0 r w0 w t0 t : ℕ} {left0 left out0 ou
   ended-unread = ran-unread x.before res r0 r w0 w t0 t left0 left out0 out x.kept v x.ran
 
   pub ended-read : res ≡ ReadFault → Rose r0 r
-  ended-read = read-by x.before res r0 r w0 w t0 t left0 left out0 out x.kept by
+  ended-read = read-by x.before res r0 r w0 w t0 t 0 left0 left out0 out x.kept by
 
   pub ended-read-told : r0 < r → (res ≡ ReadFault) ⊎ (res ≡ OutOfMemory)
-  ended-read-told = read-told-by x.before res r0 r w0 w t0 t left0 left out0 out x.kept by
+  ended-read-told = read-told-by x.before res r0 r w0 w t0 t 0 left0 left out0 out x.kept by
 
   pub ended-write : res ≡ WriteFault → Rose w0 w
-  ended-write = write-by x.before res r0 r w0 w t0 t left0 left out0 out x.kept by
+  ended-write = write-by x.before res r0 r w0 w t0 t 0 left0 left out0 out x.kept by
 
   pub ended-write-told : w0 < w → (res ≡ WriteFault) ⊎ (res ≡ OutOfMemory)
-  ended-write-told = write-told-by x.before res r0 r w0 w t0 t left0 left out0 out x.kept by
+  ended-write-told = write-told-by x.before res r0 r w0 w t0 t 0 left0 left out0 out x.kept by
 
   pub ended-long : res ≡ InputTooLong → (t0 + 2 ^ 40 < t) ⊎ (2 ^ 64 - 1 ≤ t)
-  ended-long = long-by x.before res r0 r w0 w t0 t left0 left out0 out x.kept by
+  ended-long = long-by x.before res r0 r w0 w t0 t 0 left0 left out0 out x.kept by
 
   pub ended-long-told : t0 + 2 ^ 40 < t → (res ≡ InputTooLong) ⊎ (res ≡ OutOfMemory)
-  ended-long-told = long-told-by x.before res r0 r w0 w t0 t left0 left out0 out x.kept by
+  ended-long-told = long-told-by x.before res r0 r w0 w t0 t 0 left0 left out0 out x.kept by
 
   pub ended-long-bytes : res ≡ InputTooLong → OfTaken left0 left (λ taken. length taken ≡ 2 ^ 40 + 1)
-  ended-long-bytes = long-bytes-by x.before res r0 r w0 w t0 t left0 left out0 out x.kept by
+  ended-long-bytes = long-bytes-by x.before res r0 r w0 w t0 t 0 left0 left out0 out x.kept by
 
   pub ended-long-bytes-told :
       OfTaken left0 left (λ taken. 2 ^ 40 < length taken → (res ≡ InputTooLong) ⊎ (res ≡ OutOfMemory))
-  ended-long-bytes-told = long-bytes-told-by x.before res r0 r w0 w t0 t left0 left out0 out x.kept by
+  ended-long-bytes-told = long-bytes-told-by x.before res r0 r w0 w t0 t 0 left0 left out0 out x.kept by
 
   pub ended-at_most : t ≤ t0 + 2 ^ 40 + 1
-  ended-at_most = at_most-by x.before res r0 r w0 w t0 t left0 left out0 out x.kept by
+  ended-at_most = at_most-by x.before res r0 r w0 w t0 t 0 left0 left out0 out x.kept by
 
 -- ---- how a run is put together
 pub ended : (v : Verdict) (s res : Status) (r0 r w0 w t0 t : ℕ) (left0 left out0 out : Option (List ℕ))
