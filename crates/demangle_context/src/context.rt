@@ -157,6 +157,27 @@ impl<'a, 'w, T: InnerNode, S: 'a, W: 'w + DemangleWrite> Context<'a, 'w, T, S, W
         out
     }
 
+    /// Ends the printing and gives the stacks back, empty but with their room, for another one; and the listener.
+    pub fn end_with_items(self) -> (InnerItems<T>, &'w mut W)
+        ensures items { items_of T.tree result.0 ≡ no_items (view T.tree W.seen self.entry).items.limit }
+        ensures same_reference { result.1.ghost_name ≡ (view T.tree W.seen self.entry).name }
+        ensures seen { W.seen result.1.now ≡ (view T.tree W.seen self.entry).seen }
+    {
+        let Context {
+            mut items,
+            subs: _subs,
+            input: _input,
+            out,
+            last: _last,
+            source: _source,
+            flags: _flags,
+            room: _room,
+            trouble: _trouble,
+        } = self;
+        items.clear();
+        (items, out)
+    }
+
     /// The level, which is below the limit.
     pub fn recursion_level(&self) -> u32
         ensures value { result ≡ (view T.tree W.seen self.now).items.level }

@@ -78,6 +78,16 @@ impl<T: InnerNode> InnerItems<T> {
         })
     }
 
+    /// No items again, at level 0 of as many levels. The stacks keep their room.
+    pub(crate) fn clear(&mut self)
+        ensures { items_of T.tree self.new ≡ no_items (items_of T.tree self.old).limit }
+    {
+        self.items.truncate(0);
+        self.base = 0;
+        self.kept.truncate(0);
+        self.level = 0;
+    }
+
     /// The level.
     pub(crate) fn level(&self) -> u32
         ensures value { result ≡ (items_of T.tree self.now).level }
