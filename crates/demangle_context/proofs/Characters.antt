@@ -2,8 +2,9 @@
 use Rattle.std.proofs.Common.{◌≡◌, ℕ, ◌+◌, ◌%◌, ◌<◌, ◌≤◌, ◌==◌, cond, Bool, true, false, List, [], ◌∷◌, ◌++◌}
 use Rattle.std.proofs.Common.{length, Option, Some, None, refl, sym, ◌∙◌, ap, arith, eq-eqb}
 use Rattle.std.proofs.Common.{zero, suc, ltb, ⊎_elim}
-use Rattle.std.specs.Prelude.{IsSomeAnd}
+use Rattle.std.specs.Prelude.{IsSomeAnd, slice_get, ◌-◌}
 use Rattle.std.proofs.lemmas.Bool.{ne_eqb, ltb-false, cases_eq}
+use Rattle.std.proofs.lemmas.Str.{encode_ascii}
 use lib.Utf8.{encode}
 use Rattle.demangle_printing.specs.State.{last_of, is_byte}
 use Rattle.demangle_context.specs.View.{last_byte}
@@ -46,6 +47,20 @@ is_last_char (b ∷ bs) old (Some c) h p = (c, refl, p)
 pub has_bytes : (n : ℕ) → false ≡ (n == 0) → 0 < n
 has_bytes zero e = absurd (let k : false ≡ true = e in cc)
 has_bytes (suc n) e = omega arith
+
+-- what stands before the last byte
+before_last : (x : ℕ) (xs : List ℕ) (b : ℕ) → slice_get (x ∷ xs) (length xs) ≡ Some b →
+    (f : List ℕ) × (x ∷ xs ≡ f ++ b ∷ [])
+before_last x [] b h = let e : x ≡ b = cc in ([], ap (λ y. y ∷ []) e)
+before_last x (y ∷ ys) b h = let p = before_last y ys b h in (x ∷ p.0, ap (λ l. x ∷ l) p.1)
+
+-- a last byte of ASCII is the last character
+pub ends_in_ascii : (s : List ℕ) (b : ℕ) → slice_get s (length s - 1) ≡ Some b → b < 128 → EndsIn s b
+ends_in_ascii [] b h k = absurd (let e : slice_get {X = ℕ} [] 0 ≡ Some b = h in cc)
+ends_in_ascii (x ∷ xs) b h k =
+    let e : length (x ∷ xs) - 1 ≡ length xs = omega arith in
+    let p = before_last x xs b (ap (λ n. slice_get (x ∷ xs) n) (sym e) ∙ h) in
+    record { front = p.0; is = p.1 ∙ sym (ap (λ l. p.0 ++ l) (encode_ascii b k)) }
 
 -- ---- one byte
 same_byte : (b x : ℕ) → (x == b) ≡ (b == x)

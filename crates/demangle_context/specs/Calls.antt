@@ -1,5 +1,5 @@
 -- What the calls of a context change that write, or that tell the listener of nodes; and when there is room for items.
-use Rattle.std.specs.Prelude.{◌≡◌, ℕ, ◌≤◌, ◌↔◌, true, false, codes, List, [], ◌∷◌, length, Option, Some}
+use Rattle.std.specs.Prelude.{◌≡◌, ℕ, ◌≤◌, ◌↔◌, true, false, codes, List, [], length}
 use Rattle.std.specs.Prelude.{Result, Ok, Err, OnOk, IfErr}
 use Rattle.demangle_printing.specs.State.{has_room, less_room, wrote, is_byte}
 use Rattle.demangle_printing.specs.Laws.{IsReady}

@@ -60,6 +60,11 @@ pub struct Context<'a, 'w, T: Copy, S: 'a, W: 'w> {
 fn last_char(s: &str) -> Option<char>
     ensures { 0 < length s.now → IsSomeAnd result (EndsIn s.now) }
 {
+    if let Some(byte) = s.as_bytes().last() {
+        if *byte < 128 {
+            return Some(*byte as char);
+        }
+    }
     s.chars().next_back()
 }
 
