@@ -87,7 +87,7 @@ fn main(rt: HostRuntime) -> io::Result<()> {
     }
     let length = word(&mut input, &mut room)?;
     let kind = &room[..length];
-    if kind == b"lines" {
+    if kind == b"lines".as_slice() {
         let (mut source, mut output) = (StdSource::new(input), StdSink::new(rt.stdout()));
         let status = run(rt.alloc(), Vec::new(rt.alloc()), &mut source, &mut output, &mut StdSink::new(rt.stderr()));
         let code = status.code();
@@ -96,7 +96,7 @@ fn main(rt: HostRuntime) -> io::Result<()> {
     }
     let length = word(&mut input, &mut name)?;
     let name = &name[..length];
-    if kind == b"told" {
+    if kind == b"told".as_slice() {
         let mut events = Counting { events: 0 };
         let done = told(rt.alloc(), name, &mut events);
         let events = events.events;

@@ -46,8 +46,11 @@ def listed():
 
 def made(folder, name, program, tops):
     """The program's crate, beside copies of the crates that it stands on: these, and those below them."""
-    below = listed()
-    order = [crate for crate in below if crate in tops or any(crate in below[top] for top in tops)]
+    below, wanted = listed(), set(tops)
+    for crate in reversed(list(below)):
+        if crate in wanted:
+            wanted.update(below[crate])
+    order = [crate for crate in below if crate in wanted]
     with open(os.path.join(folder, "crates.txt"), "w") as file:
         file.writelines(f"{crate}: {' '.join(below[crate])}\n" for crate in order)
         file.write(f"{name}: {' '.join(order)}\n")

@@ -2,7 +2,11 @@
 #![tactic(auto)]
 
 use cppfilt_text_run::program::{Ended, start};
+use cppfilt_text_run::standard::{StdSink, StdSource};
 
 fn main(rt: HostRuntime) -> Ended {
-    start(&rt, rt.stdin(), rt.stdout(), rt.stderr())
+    let mut input = StdSource::new(rt.stdin());
+    let mut output = StdSink::new(rt.stdout());
+    let mut errors = StdSink::new(rt.stderr());
+    start(&rt, &mut input, &mut output, &mut errors)
 }

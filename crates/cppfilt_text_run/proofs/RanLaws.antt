@@ -1,5 +1,5 @@
 -- Laws on a whole run: what holds of it by how it ended before its message, and by what was reported then.
-use Rattle.std.proofs.Common.{◌≡◌, ◌⊎◌, inl, inr, ℕ, ◌+◌, ◌-◌, ◌^◌, ◌<◌, ◌≤◌, false, List, [], length, map, take, sym, ◌∙◌}
+use Rattle.std.proofs.Common.{◌≡◌, ◌⊎◌, inl, inr, ℕ, ◌+◌, ◌-◌, ◌^◌, ◌<◌, ◌≤◌, false, List, length, map, take, sym, ◌∙◌}
 use Rattle.std.proofs.Common.{subst, refl}
 use Rattle.std.specs.List.{All}
 use Rattle.std.specs.Prelude.{Option, None, Some, IfSome}
@@ -21,11 +21,12 @@ use Rattle.cppfilt_run.proofs.RanLaws.{long-bytes-told-by, long-told-by, read-by
 use Rattle.cppfilt_run.proofs.RanLaws.{write-told-by}
 use Rattle.cppfilt_run.proofs.ReportLaws.{Counts, run-complete, run-help, run-refused, run-usage}
 use Rattle.demangle_printing.specs.Outcome.{Options}
-use Rattle.cppfilt_text_run.specs.Outcome.{KeepsUp, Settles, Stopped, Written}
+use Rattle.cppfilt_text_run.specs.Outcome.{KeepsUp, Stopped, Written}
 use Rattle.cppfilt_text_run.specs.Ran.{Ended, Ran, reads}
 use Rattle.cppfilt_text_run.proofs.RunLaws.{stop-memory}
 use Rattle.demangle_stream.specs.Replaced.{replaced}
 use Rattle.demangle_stream.specs.Runs.{pieces}
+use Rattle.demangle_stream.specs.Settled.{settled}
 use Rattle.demangle_stream.specs.Shown.{name_of}
 
 -- ---- names
@@ -34,14 +35,14 @@ pub runs-named : (o : FilterOptions) (bytes : Option (List ℕ))
 runs-named o None = tt
 runs-named o (Some b) = each_named o (names (map name_of (pieces b))) (Some b)
 
-counts : {s : Status} {p : ℕ} {o : Options} {limit r0 r w0 w t0 t : ℕ} {left0 left out0 out : Option (List ℕ)}
-    → Stopped p o s limit r0 r w0 w t0 t left0 left out0 out → Counts s limit r0 r w0 w t0 t left0 left
+counts : {s : Status} {p : ℕ} {o : Options} {limit r0 r w0 w t0 t g : ℕ} {left0 left out0 out : Option (List ℕ)}
+    → Stopped p o s limit r0 r w0 w t0 t g left0 left out0 out → Counts s limit r0 r w0 w t0 t left0 left
 counts st = record { faults = st.faults; amount = st.amount }
 
 -- ---- a run
-module _ (s res : Status) (r0 r w0 w t0 t : ℕ) (left0 left out0 out : Option (List ℕ)) (kept : Reported s res) where
+module _ (s res : Status) (r0 r w0 w t0 t g : ℕ) (left0 left out0 out : Option (List ℕ)) (kept : Reported s res) where
   abbrev HasRun : Verdict → Type 0
-  HasRun v = Ran v s r0 r w0 w t0 t left0 left out0 out
+  HasRun v = Ran v s r0 r w0 w t0 t g left0 left out0 out
 
   abbrev Sorted : Type 0
   Sorted = Counts s (2 ^ 40) r0 r w0 w t0 t left0 left ⊎ (Unread r0 r t0 t left0 left × Quiet s w0 w)
@@ -96,7 +97,7 @@ module _ (s res : Status) (r0 r w0 w t0 t : ℕ) (left0 left out0 out : Option (
 
   -- ---- where the input was filtered
   stopped : (v : Verdict) (o : FilterOptions) (work : Work) → v ≡ Asks o work → HasRun v
-      → Stopped o.parse o.print s (2 ^ 40) r0 r w0 w t0 t left0 left out0 out
+      → Stopped o.parse o.print s (2 ^ 40) r0 r w0 w t0 t g left0 left out0 out
   stopped v o work e p = subst HasRun e p
 
   -- what was written, by the status that is answered
@@ -108,24 +109,24 @@ module _ (s res : Status) (r0 r w0 w t0 t : ℕ) (left0 left out0 out : Option (
       (stopped v o work is p).written
 
 -- at the end of the input
-stopped-end : (s : Status) {p : ℕ} {o : Options} {limit r0 r w0 w t0 t : ℕ} {left0 left out0 out : Option (List ℕ)}
-    → Stopped p o s limit r0 r w0 w t0 t left0 left out0 out → s ≡ Done → IsAtEnd left
+stopped-end : (s : Status) {p : ℕ} {o : Options} {limit r0 r w0 w t0 t g : ℕ} {left0 left out0 out : Option (List ℕ)}
+    → Stopped p o s limit r0 r w0 w t0 t g left0 left out0 out → s ≡ Done → IsAtEnd left
 stopped-end Done st e = st.written.0
 stopped-end _ st e = absurd cc
 
 -- ---- what holds at the end of a run
-module _ {v : Verdict} {res : Status} {r0 r w0 w t0 t : ℕ} {left0 left out0 out : Option (List ℕ)}
-    (x : Ended v res r0 r w0 w t0 t left0 left out0 out) where
+module _ {v : Verdict} {res : Status} {r0 r w0 w t0 t g : ℕ} {left0 left out0 out : Option (List ℕ)}
+    (x : Ended v res r0 r w0 w t0 t g left0 left out0 out) where
   by : Counts x.before (2 ^ 40) r0 r w0 w t0 t left0 left ⊎ (Unread r0 r t0 t left0 left × Quiet x.before w0 w)
-  by = sorted x.before res r0 r w0 w t0 t left0 left out0 out x.kept v x.ran
+  by = sorted x.before res r0 r w0 w t0 t g left0 left out0 out x.kept v x.ran
 
   at : (o : FilterOptions) (work : Work) → v ≡ Asks o work
-      → Stopped o.parse o.print x.before (2 ^ 40) r0 r w0 w t0 t left0 left out0 out
-  at o work is = stopped x.before res r0 r w0 w t0 t left0 left out0 out x.kept v o work is x.ran
+      → Stopped o.parse o.print x.before (2 ^ 40) r0 r w0 w t0 t g left0 left out0 out
+  at o work is = stopped x.before res r0 r w0 w t0 t g left0 left out0 out x.kept v o work is x.ran
 
   gave : (o : FilterOptions) (work : Work) → v ≡ Asks o work → (other : Status) → (other ≡ OutOfMemory → ⊥)
       → res ≡ other → Written o.parse o.print other (2 ^ 40) left0 left out0 out
-  gave o work is = written x.before res r0 r w0 w t0 t left0 left out0 out x.kept v o work is x.ran
+  gave o work is = written x.before res r0 r w0 w t0 t g left0 left out0 out x.kept v o work is x.ran
 
   pub ended-done : (o : FilterOptions) (work : Work) → v ≡ Asks o work → res ≡ Done
       → IsAtEnd left × IfSome left0 (λ bytes. Appends out0 out (replaced o.parse o.print bytes))
@@ -136,15 +137,15 @@ module _ {v : Verdict} {res : Status} {r0 r w0 w t0 t : ℕ} {left0 left out0 ou
   ended-front o work is = (at o work is).front
 
   pub ended-keeps_up : (o : FilterOptions) (work : Work) → v ≡ Asks o work
-      → OfTaken left0 left (KeepsUp o.parse o.print out0 out)
+      → OfTaken left0 left (KeepsUp o.parse o.print g out0 out)
   ended-keeps_up o work is = (at o work is).keeps_up
 
   pub ended-read-written : (o : FilterOptions) (work : Work) → v ≡ Asks o work → res ≡ ReadFault
-      → OfTaken left0 left (Settles o.parse o.print out0 out)
+      → OfTaken left0 left (λ taken. Appends out0 out (replaced o.parse o.print (settled taken)))
   ended-read-written o work is e = gave o work is ReadFault (λ k. cc) e
 
   pub ended-long-written : (o : FilterOptions) (work : Work) → v ≡ Asks o work → res ≡ InputTooLong
-      → IfSome left0 (λ bytes. Settles o.parse o.print out0 out (take (2 ^ 40) bytes))
+      → IfSome left0 (λ bytes. Appends out0 out (replaced o.parse o.print (settled (take (2 ^ 40) bytes))))
   ended-long-written o work is e = gave o work is InputTooLong (λ k. cc) e
 
   pub ended-complete : (o : FilterOptions) (work : Work) → v ≡ Asks o work → NoFault r0 r → NoFault w0 w
@@ -160,61 +161,61 @@ module _ {v : Verdict} {res : Status} {r0 r w0 w t0 t : ℕ} {left0 left out0 ou
       run-refused x.before res (counts st) (stopped-end x.before st) x.kept read write
 
   pub ended-usage : res ≡ Usage → v ≡ Mistaken
-  ended-usage = ran-usage x.before res r0 r w0 w t0 t left0 left out0 out x.kept v x.ran
+  ended-usage = ran-usage x.before res r0 r w0 w t0 t g left0 left out0 out x.kept v x.ran
 
   pub ended-usage-told : v ≡ Mistaken → ((res ≡ Usage) ⊎ (res ≡ OutOfMemory)) × (out ≡ out0) × (w ≡ w0)
-  ended-usage-told = ran-usage-told x.before res r0 r w0 w t0 t left0 left out0 out x.kept v x.ran
+  ended-usage-told = ran-usage-told x.before res r0 r w0 w t0 t g left0 left out0 out x.kept v x.ran
 
   pub ended-help : res ≡ Help → v ≡ AsksHelp
-  ended-help = ran-help x.before res r0 r w0 w t0 t left0 left out0 out x.kept v x.ran
+  ended-help = ran-help x.before res r0 r w0 w t0 t g left0 left out0 out x.kept v x.ran
 
   pub ended-help-told : v ≡ AsksHelp → (res ≡ Help) ⊎ ((res ≡ WriteFault) ⊎ (res ≡ OutOfMemory))
-  ended-help-told = ran-help-told x.before res r0 r w0 w t0 t left0 left out0 out x.kept v x.ran
+  ended-help-told = ran-help-told x.before res r0 r w0 w t0 t g left0 left out0 out x.kept v x.ran
 
   pub ended-unread : reads v ≡ false → Unread r0 r t0 t left0 left
-  ended-unread = ran-unread x.before res r0 r w0 w t0 t left0 left out0 out x.kept v x.ran
+  ended-unread = ran-unread x.before res r0 r w0 w t0 t g left0 left out0 out x.kept v x.ran
 
   pub ended-read : res ≡ ReadFault → Rose r0 r
-  ended-read = read-by x.before res r0 r w0 w t0 t 0 left0 left out0 out x.kept by
+  ended-read = read-by x.before res r0 r w0 w t0 t g left0 left out0 out x.kept by
 
   pub ended-read-told : r0 < r → (res ≡ ReadFault) ⊎ (res ≡ OutOfMemory)
-  ended-read-told = read-told-by x.before res r0 r w0 w t0 t 0 left0 left out0 out x.kept by
+  ended-read-told = read-told-by x.before res r0 r w0 w t0 t g left0 left out0 out x.kept by
 
   pub ended-write : res ≡ WriteFault → Rose w0 w
-  ended-write = write-by x.before res r0 r w0 w t0 t 0 left0 left out0 out x.kept by
+  ended-write = write-by x.before res r0 r w0 w t0 t g left0 left out0 out x.kept by
 
   pub ended-write-told : w0 < w → (res ≡ WriteFault) ⊎ (res ≡ OutOfMemory)
-  ended-write-told = write-told-by x.before res r0 r w0 w t0 t 0 left0 left out0 out x.kept by
+  ended-write-told = write-told-by x.before res r0 r w0 w t0 t g left0 left out0 out x.kept by
 
   pub ended-long : res ≡ InputTooLong → (t0 + 2 ^ 40 < t) ⊎ (2 ^ 64 - 1 ≤ t)
-  ended-long = long-by x.before res r0 r w0 w t0 t 0 left0 left out0 out x.kept by
+  ended-long = long-by x.before res r0 r w0 w t0 t g left0 left out0 out x.kept by
 
   pub ended-long-told : t0 + 2 ^ 40 < t → (res ≡ InputTooLong) ⊎ (res ≡ OutOfMemory)
-  ended-long-told = long-told-by x.before res r0 r w0 w t0 t 0 left0 left out0 out x.kept by
+  ended-long-told = long-told-by x.before res r0 r w0 w t0 t g left0 left out0 out x.kept by
 
   pub ended-long-bytes : res ≡ InputTooLong → OfTaken left0 left (λ taken. length taken ≡ 2 ^ 40 + 1)
-  ended-long-bytes = long-bytes-by x.before res r0 r w0 w t0 t 0 left0 left out0 out x.kept by
+  ended-long-bytes = long-bytes-by x.before res r0 r w0 w t0 t g left0 left out0 out x.kept by
 
   pub ended-long-bytes-told :
       OfTaken left0 left (λ taken. 2 ^ 40 < length taken → (res ≡ InputTooLong) ⊎ (res ≡ OutOfMemory))
-  ended-long-bytes-told = long-bytes-told-by x.before res r0 r w0 w t0 t 0 left0 left out0 out x.kept by
+  ended-long-bytes-told = long-bytes-told-by x.before res r0 r w0 w t0 t g left0 left out0 out x.kept by
 
   pub ended-at_most : t ≤ t0 + 2 ^ 40 + 1
-  ended-at_most = at_most-by x.before res r0 r w0 w t0 t 0 left0 left out0 out x.kept by
+  ended-at_most = at_most-by x.before res r0 r w0 w t0 t g left0 left out0 out x.kept by
 
 -- ---- how a run is put together
-pub ended : (v : Verdict) (s res : Status) (r0 r w0 w t0 t : ℕ) (left0 left out0 out : Option (List ℕ))
-    → Ran v s r0 r w0 w t0 t left0 left out0 out → Reported s res
-    → Ended v res r0 r w0 w t0 t left0 left out0 out
-ended v s res r0 r w0 w t0 t left0 left out0 out ran kept = record { before = s; ran = ran; kept = kept }
+pub ended : (v : Verdict) (s res : Status) (r0 r w0 w t0 t g : ℕ) (left0 left out0 out : Option (List ℕ))
+    → Ran v s r0 r w0 w t0 t g left0 left out0 out → Reported s res
+    → Ended v res r0 r w0 w t0 t g left0 left out0 out
+ended v s res r0 r w0 w t0 t g left0 left out0 out ran kept = record { before = s; ran = ran; kept = kept }
 
 -- there was no memory before anything else was done
-memory : (v : Verdict) (r w t : ℕ) (left out : Option (List ℕ)) → Ran v OutOfMemory r r w w t t left left out out
-memory Mistaken r w t left out = (inr refl, (refl, refl, refl), refl, refl)
-memory AsksHelp r w t left out = (refl, (refl, refl, refl))
-memory (Asks o work) r w t left out = stop-memory o.parse o.print (2 ^ 40) r w t left out
+memory : (v : Verdict) (r w t g : ℕ) (left out : Option (List ℕ)) → Ran v OutOfMemory r r w w t t g left left out out
+memory Mistaken r w t g left out = (inr refl, (refl, refl, refl), refl, refl)
+memory AsksHelp r w t g left out = (refl, (refl, refl, refl))
+memory (Asks o work) r w t g left out = stop-memory o.parse o.print (2 ^ 40) r w t g left out
 
-pub ended-memory : (v : Verdict) (res : Status) (r w t : ℕ) (left out : Option (List ℕ)) → Reported OutOfMemory res
-    → Ended v res r r w w t t left left out out
-ended-memory v res r w t left out kept =
-    ended v OutOfMemory res r r w w t t left left out out (memory v r w t left out) kept
+pub ended-memory : (v : Verdict) (res : Status) (r w t g : ℕ) (left out : Option (List ℕ)) → Reported OutOfMemory res
+    → Ended v res r r w w t t g left left out out
+ended-memory v res r w t g left out kept =
+    ended v OutOfMemory res r r w w t t g left left out out (memory v r w t g left out) kept

@@ -1,12 +1,8 @@
 -- Laws on a run over an input: how it goes on, and how it stops.
-use Rattle.std.proofs.Common.{subst, ◌≡◌, ◌⊎◌, inl, inr, ℕ, ◌+◌, ◌-◌, ◌^◌, ◌<◌, ◌≤◌, min, List, [], ◌++◌, length, take}
-use Rattle.std.proofs.Common.{refl}
-use Rattle.std.proofs.Common.{sym, ap, ◌∙◌, append_assoc, append-nil, arith, length-append, Err}
-use Rattle.std.specs.Prelude.{Option, Some, None, IfSome, Bool, true, false}
+use Rattle.std.proofs.Common.{◌≡◌, inl, inr, ℕ, ◌+◌, ◌-◌, ◌^◌, ◌<◌, ◌≤◌, min, List, [], ◌++◌, length, take}
+use Rattle.std.proofs.Common.{subst, refl, sym, ap, ◌∙◌, append_assoc, append-nil, arith, length-append, Err}
+use Rattle.std.specs.Prelude.{Option, Some, None, IfSome}
 use Rattle.std.specs.Io.KnownBytes.{Appends, Consumes, Keeps, IsAtEnd}
-use Rattle.std.proofs.lemmas.Bool.{cases_lt}
-use Rattle.std.proofs.lemmas.List.{append_cancel_right}
-use Rattle.std.proofs.Math.Seq.{take-append_seam}
 use Rattle.std.proofs.KnownBytes.{Appends-nil, Appends-trans, Consumes-nil, Consumes-trans, Consumes-kept}
 use Rattle.demangle_context.specs.declared.error.SinkFault.{SinkFault}
 use Rattle.demangle_context.specs.declared.error.SinkFault.TheVariants as fault
@@ -15,9 +11,11 @@ use Rattle.cppfilt_ends.specs.Moves.{Moves, Begins}
 use Rattle.cppfilt_ends.proofs.MoveLaws.{moves-none, moves-then, begins, begins-then, begins-none, cause-then}
 use Rattle.demangle_printing.specs.Outcome.{Options}
 use Rattle.demangle_stream.specs.Fed.{Behind}
-use Rattle.demangle_stream.specs.Replaced.{due_behind, replaced, rest}
+use Rattle.demangle_stream.specs.Replaced.{replaced, rest}
+use Rattle.demangle_stream.specs.Settled.{settled}
 use Rattle.demangle_stream.specs.declared.state.Stream.{Stream}
-use Rattle.demangle_stream.proofs.PieceLaws.{passed-other, replaced-cut, replaced-nil}
+use Rattle.demangle_stream.proofs.PieceLaws.{replaced-nil}
+use Rattle.demangle_stream.proofs.SettledLaws.{settled-given, settled-nil}
 use Rattle.cppfilt_run.specs.Outcome.{Finished, OfTaken}
 use Rattle.cppfilt_run.specs.Owed.{block_limit}
 use Rattle.cppfilt_run.specs.Statuses.{refusal_status}
@@ -25,7 +23,7 @@ use Rattle.cppfilt_run.specs.declared.status.Status.{Status}
 use Rattle.cppfilt_run.specs.declared.status.Status.TheVariants.{Done, Help, Usage, ReadFault, WriteFault}
 use Rattle.cppfilt_run.specs.declared.status.Status.TheVariants.{InputTooLong, OutOfMemory}
 use Rattle.cppfilt_run.proofs.RunLaws.{count-more, first-of, moves-all, moves-block, of-taken, whole-of}
-use Rattle.cppfilt_text_run.specs.Outcome.{KeepsUp, Settles, Going, Stopped, Taking}
+use Rattle.cppfilt_text_run.specs.Outcome.{KeepsUp, Going, Stopped, Taking}
 
 abbrev Bytes : Type 0
 Bytes = Option (List ℕ)
@@ -78,76 +76,47 @@ going-more {p} {o} {limit} {r0} {r} {w0} {w} {t0} {t} {left0} {left} {out0} {out
     }
 
 -- ---- what was written
--- between two blocks: what is due for all but the run at their end
--- what is due at the end for a run that waits, and for one that was passed on
-left-behind : (p : ℕ) (o : Options) (passing : Bool) (held run : List ℕ) → (passing ≡ false → held ≡ run)
-    → (more : List ℕ) × (replaced p o run ≡ more ++ due_behind p o passing held [])
-left-behind p o true held run waits =
-    (replaced p o run, sym (ap (λ l. replaced p o run ++ l) (passed-other p o [] refl ∙ replaced-nil p o) ∙ append-nil (replaced p o run)))
-left-behind p o false held run waits = ([], ap (replaced p o) (sym (append-nil held ∙ waits refl)))
-
+-- between two blocks: what is due for what is settled
 so_far : (p : ℕ) (o : Options) (out0 out : Bytes) (bytes : List ℕ) (s : Stream) → s.parse ≡ p → s.print ≡ o
-    → Behind s bytes → Moves out0 out (replaced p o (bytes ++ [])) (rest s []) → Settles p o out0 out bytes
+    → Behind s bytes → Moves out0 out (replaced p o (bytes ++ [])) (rest s [])
+    → Appends out0 out (replaced p o (settled bytes))
 so_far p o out0 out bytes s same-p same-o b m =
-    let l = left-behind p o s.passing s.held.items b.run b.waits in
-    let tail : rest s [] ≡ due_behind p o s.passing s.held.items [] =
-    ap (λ k. due_behind k s.print s.passing s.held.items []) same-p
-    ∙ ap (λ k. due_behind p k s.passing s.held.items []) same-o in
-    let whole : m.given ++ rest s [] ≡ (replaced p o b.front ++ l.0) ++ rest s [] =
-    sym m.parts ∙ ap (replaced p o) (append-nil bytes ∙ b.parts)
-    ∙ replaced-cut p o b.front b.run b.ends
-    ∙ ap (λ k. replaced p o b.front ++ k) (l.1 ∙ ap (λ k. l.0 ++ k) (sym tail))
-    ∙ sym (append_assoc (replaced p o b.front) l.0 (rest s [])) in
-    record {
-      front = b.front;
-      run = b.run;
-      more = l.0;
-      parts = b.parts;
-      is_run = b.is_run;
-      appends = rw (sym (append_cancel_right m.given (replaced p o b.front ++ l.0) (rest s []) whole)) m.appends;
-    }
+    let given =
+    settled-given p o s bytes m.given same-p same-o b (ap (replaced p o) (sym (append-nil bytes)) ∙ m.parts) in
+    rw (sym given) m.appends
 
 pub going-so_far : {p : ℕ} {o : Options} {limit r0 r w0 w t0 t : ℕ} {left0 left out0 out : Bytes}
     {s : Stream} {count : ℕ}
     → (g : Going p o limit r0 r w0 w t0 t left0 left out0 out s count)
-    → Settles p o out0 out g.bytes
+    → Appends out0 out (replaced p o (settled g.bytes))
 going-so_far {p} {o} {limit} {r0} {r} {w0} {w} {t0} {t} {left0} {left} {out0} {out} {s} g =
     so_far p o out0 out g.bytes s g.parse g.print g.behind (g.moves [])
 
--- more was written
-settles-more : (p : ℕ) (o : Options) (out0 out out' : Bytes) (seen more : List ℕ) → Settles p o out0 out seen
-    → Appends out out' more → Settles p o out0 out' seen
-settles-more p o out0 out out' seen more a b = record {
-  front = a.front;
-  run = a.run;
-  more = a.more ++ more;
-  parts = a.parts;
-  is_run = a.is_run;
-  appends =
-      rw (← append_assoc (replaced p o a.front) a.more more)
-      (Appends-trans out0 out out' (replaced p o a.front ++ a.more) more a.appends b);
-}
-
 -- nothing is behind a last block
-pub keeps_up-all : (p : ℕ) (o : Options) (out0 out : Bytes) (taken : List ℕ) → Settles p o out0 out taken
-    → KeepsUp p o out0 out taken
-keeps_up-all p o out0 out taken a = record {
+pub keeps_up-all : (p : ℕ) (o : Options) (given : ℕ) (out0 out : Bytes) (taken : List ℕ)
+    → Appends out0 out (replaced p o (settled taken)) → KeepsUp p o given out0 out taken
+keeps_up-all p o given out0 out taken a = record {
   seen = taken;
   last = [];
+  more = [];
   parts = sym (append-nil taken);
+  from_last_read = omega arith;
   small = omega arith;
-  settles = a;
+  appends = rw append-nil a;
 }
 
 -- a last block is, and maybe more was written
-keeps_up-more : (p : ℕ) (o : Options) (out0 out out' : Bytes) (seen block more : List ℕ) → length block ≤ block_limit
-    → Settles p o out0 out seen → Appends out out' more → KeepsUp p o out0 out' (seen ++ block)
-keeps_up-more p o out0 out out' seen block more small a b = record {
+keeps_up-more : (p : ℕ) (o : Options) (given : ℕ) (out0 out out' : Bytes) (seen block more : List ℕ)
+    → length block ≤ given → length block ≤ block_limit → Appends out0 out (replaced p o (settled seen))
+    → Appends out out' more → KeepsUp p o given out0 out' (seen ++ block)
+keeps_up-more p o given out0 out out' seen block more of_last small a b = record {
   seen = seen;
   last = block;
+  more = more;
   parts = refl;
+  from_last_read = of_last;
   small = small;
-  settles = settles-more p o out0 out out' seen more a b;
+  appends = Appends-trans out0 out out' (replaced p o (settled seen)) more a b;
 }
 
 -- what holds whatever comes behind the bytes that were taken holds of the whole input
@@ -161,11 +130,11 @@ front-of p o (Some x) (Some y) out0 out1 bytes c f = rw c (f y)
 -- ---- how a run stops
 -- a read failed
 pub stop-read : {p : ℕ} {o : Options} {limit r0 r w0 w t0 t : ℕ} {left0 left out0 out : Bytes}
-    {s : Stream} {count : ℕ} (r' t' : ℕ) (left' : Bytes)
+    {s : Stream} {count : ℕ} (r' t' given : ℕ) (left' : Bytes)
     → Going p o limit r0 r w0 w t0 t left0 left out0 out s count → (r ≤ r') × Rose r r' → t' ≡ t
-    → Keeps left left' → Stopped p o ReadFault limit r0 r' w0 w t0 t' left0 left' out0 out
+    → Keeps left left' → Stopped p o ReadFault limit r0 r' w0 w t0 t' given left0 left' out0 out
 stop-read {p} {o} {limit} {r0} {r} {w0} {w} {t0} {t} {left0} {left} {out0} {out} {s}
-    r' t' left' g rose et kept =
+    r' t' given left' g rose et kept =
     let e = g.reads in
     let h = g.at_most in
     let k = g.within in
@@ -176,18 +145,18 @@ stop-read {p} {o} {limit} {r0} {r} {w0} {w} {t0} {t} {left0} {left} {out0} {out}
       amount = (omega arith, of-taken left0 left' (λ taken. length taken ≤ limit) g.bytes c (omega arith));
       front = front-of p o left0 left' out0 out g.bytes c
           (λ more. begins out0 out (replaced p o (g.bytes ++ more)) (rest s more) (g.moves more));
-      keeps_up = of-taken left0 left' (KeepsUp p o out0 out) g.bytes c (keeps_up-all p o out0 out g.bytes a);
-      written = of-taken left0 left' (Settles p o out0 out) g.bytes c a;
+      keeps_up = of-taken left0 left' (KeepsUp p o given out0 out) g.bytes c (keeps_up-all p o given out0 out g.bytes a);
+      written = of-taken left0 left' (λ taken. Appends out0 out (replaced p o (settled taken))) g.bytes c a;
     }
 
 -- more bytes come than are taken
 pub stop-long : {p : ℕ} {o : Options} {limit r0 r w0 w t0 t : ℕ} {left0 left out0 out : Bytes}
-    {s : Stream} {count : ℕ} (n r' t' : ℕ) (left' : Bytes) (bytes : List ℕ)
+    {s : Stream} {count : ℕ} (n r' t' given : ℕ) (left' : Bytes) (bytes : List ℕ)
     → Going p o limit r0 r w0 w t0 t left0 left out0 out s count → limit ≤ count → n ≡ 1 → r' ≡ r
-    → t' ≡ min (t + n) (2 ^ 64 - 1) → length bytes ≡ n → Consumes left left' bytes
-    → Stopped p o InputTooLong limit r0 r' w0 w t0 t' left0 left' out0 out
+    → given ≡ n → t' ≡ min (t + n) (2 ^ 64 - 1) → length bytes ≡ n → Consumes left left' bytes
+    → Stopped p o InputTooLong limit r0 r' w0 w t0 t' given left0 left' out0 out
 stop-long {p} {o} {limit} {r0} {r} {w0} {w} {t0} {t} {left0} {left} {out0} {out} {s} {count}
-    n r' t' left' bytes g full one er et eb c =
+    n r' t' given left' bytes g full one er eg et eb c =
     let h = g.at_most in
     let k = g.within in
     let counted = g.counted in
@@ -205,22 +174,22 @@ stop-long {p} {o} {limit} {r0} {r} {w0} {w} {t0} {t} {left0} {left} {out0} {out}
           (λ more. rw (append_assoc g.bytes bytes more)
           (begins out0 out (replaced p o (g.bytes ++ (bytes ++ more))) (rest s (bytes ++ more))
           (g.moves (bytes ++ more))));
-      keeps_up = of-taken left0 left' (KeepsUp p o out0 out) (g.bytes ++ bytes) c'
-          (keeps_up-more p o out0 out out g.bytes bytes [] (omega arith) a (Appends-nil out));
-      written = subst (λ m. IfSome left0 (λ input. Settles p o out0 out (take m input))) size
-          (first-of left0 left' g.bytes bytes (Settles p o out0 out) c' a);
+      keeps_up = of-taken left0 left' (KeepsUp p o given out0 out) (g.bytes ++ bytes) c'
+          (keeps_up-more p o given out0 out out g.bytes bytes [] (omega arith) (omega arith) a (Appends-nil out));
+      written = subst (λ m. IfSome left0 (λ input. Appends out0 out (replaced p o (settled (take m input))))) size
+          (first-of left0 left' g.bytes bytes (λ first. Appends out0 out (replaced p o (settled first))) c' a);
     }
 
 -- a write failed, or found no memory
 stop-by : {p : ℕ} {o : Options} {limit r0 r w0 w t0 t : ℕ} {left0 left out0 out : Bytes}
-    {s : Stream} {count : ℕ} (n t' : ℕ) (left' out' : Bytes) (bytes : List ℕ)
-    → Going p o limit r0 r w0 w t0 t left0 left out0 out s count → t' ≡ min (t + n) (2 ^ 64 - 1)
+    {s : Stream} {count : ℕ} (n t' given : ℕ) (left' out' : Bytes) (bytes : List ℕ)
+    → Going p o limit r0 r w0 w t0 t left0 left out0 out s count → given ≡ n → t' ≡ min (t + n) (2 ^ 64 - 1)
     → length bytes ≡ n → n ≤ block_limit → count + n ≤ limit → Consumes left left' bytes
     → ((more : List ℕ) → Begins out out' (rest s (bytes ++ more)))
     → ((t' ≤ t0 + limit) × OfTaken left0 left' (λ taken. length taken ≤ limit))
-    × IfSome left0 (λ input. Begins out0 out' (replaced p o input)) × OfTaken left0 left' (KeepsUp p o out0 out')
+    × IfSome left0 (λ input. Begins out0 out' (replaced p o input)) × OfTaken left0 left' (KeepsUp p o given out0 out')
 stop-by {p} {o} {limit} {r0} {r} {w0} {w} {t0} {t} {left0} {left} {out0} {out} {s} {count}
-    n t' left' out' bytes g et eb small within c f =
+    n t' given left' out' bytes g eg et eb small within c f =
     let h = g.at_most in
     let counted = g.counted in
     let c' = Consumes-trans left0 left left' g.bytes bytes g.consumes c in
@@ -233,39 +202,39 @@ stop-by {p} {o} {limit} {r0} {r} {w0} {w} {t0} {t} {left0} {left} {out0} {out} {
           (λ more. rw (append_assoc g.bytes bytes more)
           (begins-then out0 out out' (replaced p o (g.bytes ++ (bytes ++ more))) (rest s (bytes ++ more))
           (g.moves (bytes ++ more)) (f more))),
-      of-taken left0 left' (KeepsUp p o out0 out') (g.bytes ++ bytes) c'
-          (keeps_up-more p o out0 out out' g.bytes bytes b.given (omega arith) (going-so_far g) b.appends),
+      of-taken left0 left' (KeepsUp p o given out0 out') (g.bytes ++ bytes) c'
+          (keeps_up-more p o given out0 out out' g.bytes bytes b.given (omega arith) (omega arith) (going-so_far g) b.appends),
     )
 
 pub stop-write : {p : ℕ} {o : Options} {limit r0 r w0 w t0 t : ℕ} {left0 left out0 out : Bytes}
-    {s : Stream} {count : ℕ} (e : SinkFault) (n r' w' t' : ℕ) (left' out' : Bytes) (bytes : List ℕ)
-    → Going p o limit r0 r w0 w t0 t left0 left out0 out s count → r' ≡ r
+    {s : Stream} {count : ℕ} (e : SinkFault) (n r' w' t' given : ℕ) (left' out' : Bytes) (bytes : List ℕ)
+    → Going p o limit r0 r w0 w t0 t left0 left out0 out s count → r' ≡ r → given ≡ n
     → t' ≡ min (t + n) (2 ^ 64 - 1) → length bytes ≡ n → n ≤ block_limit → count + n ≤ limit
     → Consumes left left' bytes → SinkCause {T = Unit {0}} w w' (Err e)
     → ((more : List ℕ) → Begins out out' (rest s (bytes ++ more)))
-    → Stopped p o (refusal_status e) limit r0 r' w0 w' t0 t' left0 left' out0 out'
-stop-write fault.Failed n r' w' t' left' out' bytes g er et eb small within c cause f =
+    → Stopped p o (refusal_status e) limit r0 r' w0 w' t0 t' given left0 left' out0 out'
+stop-write fault.Failed n r' w' t' given left' out' bytes g er eg et eb small within c cause f =
     let e = g.writes in
-    let s = stop-by n t' left' out' bytes g et eb small within c f in record {
+    let s = stop-by n t' given left' out' bytes g eg et eb small within c f in record {
       faults = (er ∙ g.reads, (omega (arith, cause.0), rw (← e) cause.1));
       amount = s.0;
       front = s.1;
       keeps_up = s.2;
       written = tt;
     }
-stop-write fault.OutOfMemory n r' w' t' left' out' bytes g er et eb small within c cause f =
-    let s = stop-by n t' left' out' bytes g et eb small within c f in
+stop-write fault.OutOfMemory n r' w' t' given left' out' bytes g er eg et eb small within c cause f =
+    let s = stop-by n t' given left' out' bytes g eg et eb small within c f in
     record { faults = (er ∙ g.reads, cause ∙ g.writes); amount = s.0; front = s.1; keeps_up = s.2; written = tt }
 
 -- the end of the input
 end-by : {p : ℕ} {o : Options} {limit r0 r w0 w t0 t : ℕ} {left0 left out0 out : Bytes}
-    {s : Stream} {count : ℕ} (t' : ℕ) (left' out' : Bytes)
+    {s : Stream} {count : ℕ} (t' given : ℕ) (left' out' : Bytes)
     → Going p o limit r0 r w0 w t0 t left0 left out0 out s count → t' ≡ min (t + 0) (2 ^ 64 - 1)
     → Consumes left left' [] → IsAtEnd left' → Begins out out' (rest s [])
     → ((t' ≤ t0 + limit) × OfTaken left0 left' (λ taken. length taken ≤ limit))
-    × IfSome left0 (λ input. Begins out0 out' (replaced p o input)) × OfTaken left0 left' (KeepsUp p o out0 out')
+    × IfSome left0 (λ input. Begins out0 out' (replaced p o input)) × OfTaken left0 left' (KeepsUp p o given out0 out')
 end-by {p} {o} {limit} {r0} {r} {w0} {w} {t0} {t} {left0} {left} {out0} {out} {s}
-    t' left' out' g et c end f =
+    t' given left' out' g et c end f =
     let h = g.at_most in
     let k = g.within in
     let counted = g.counted in
@@ -273,13 +242,14 @@ end-by {p} {o} {limit} {r0} {r} {w0} {w} {t0} {t} {left0} {left} {out0} {out} {s
     rw (← append-nil g.bytes) (Consumes-trans left0 left left' g.bytes [] g.consumes c) in
     let before : Moves out0 out (replaced p o g.bytes) (rest s []) =
     rw (← append-nil g.bytes) (g.moves []) in
-    let up : KeepsUp p o out0 out' g.bytes =
+    let up : KeepsUp p o given out0 out' g.bytes =
     rw (← append-nil g.bytes)
-    (keeps_up-more p o out0 out out' g.bytes [] f.moves.given (omega arith) (going-so_far g) f.moves.appends) in (
+    (keeps_up-more p o given out0 out out' g.bytes [] f.moves.given (omega arith) (omega arith) (going-so_far g)
+    f.moves.appends) in (
       (omega arith, of-taken left0 left' (λ taken. length taken ≤ limit) g.bytes c' (omega arith)),
       whole-of left0 left' g.bytes (λ input. Begins out0 out' (replaced p o input)) c' end
           (begins-then out0 out out' (replaced p o g.bytes) (rest s []) before f),
-      of-taken left0 left' (KeepsUp p o out0 out') g.bytes c' up,
+      of-taken left0 left' (KeepsUp p o given out0 out') g.bytes c' up,
     )
 
 end-written : {p : ℕ} {o : Options} {limit r0 r w0 w t0 t : ℕ} {left0 left out0 out : Bytes}
@@ -297,89 +267,83 @@ end-written {p} {o} {limit} {r0} {r} {w0} {w} {t0} {t} {left0} {left} {out0} {ou
     (moves-all out0 out' (replaced p o g.bytes) all)
 
 stop-end : {p : ℕ} {o : Options} {limit r0 r w0 w t0 t : ℕ} {left0 left out0 out : Bytes}
-    {s : Stream} {count : ℕ} (status : Status) (r' w' t' : ℕ) (left' out' : Bytes)
+    {s : Stream} {count : ℕ} (status : Status) (r' w' t' given : ℕ) (left' out' : Bytes)
     → Going p o limit r0 r w0 w t0 t left0 left out0 out s count → r' ≡ r
     → t' ≡ min (t + 0) (2 ^ 64 - 1) → Consumes left left' [] → IsAtEnd left'
     → Finished status w w' out out' (rest s [])
-    → Stopped p o status limit r0 r' w0 w' t0 t' left0 left' out0 out'
-stop-end {p} {o} {out} {s} Done r' w' t' left' out' g er et c end f =
-    let s = end-by t' left' out' g et c end (begins out out' (rest s []) [] f.1) in record {
+    → Stopped p o status limit r0 r' w0 w' t0 t' given left0 left' out0 out'
+stop-end {p} {o} {out} {s} Done r' w' t' given left' out' g er et c end f =
+    let s = end-by t' given left' out' g et c end (begins out out' (rest s []) [] f.1) in record {
       faults = (er ∙ g.reads, f.0 ∙ g.writes);
       amount = s.0;
       front = s.1;
       keeps_up = s.2;
       written = (end, end-written left' out' g c end f.1);
     }
-stop-end WriteFault r' w' t' left' out' g er et c end f =
+stop-end WriteFault r' w' t' given left' out' g er et c end f =
     let e = g.writes in
-    let s = end-by t' left' out' g et c end f.1 in record {
+    let s = end-by t' given left' out' g et c end f.1 in record {
       faults = (er ∙ g.reads, (omega (arith, f.0.0), rw (← e) f.0.1));
       amount = s.0;
       front = s.1;
       keeps_up = s.2;
       written = tt;
     }
-stop-end OutOfMemory r' w' t' left' out' g er et c end f =
-    let s = end-by t' left' out' g et c end f.1 in
+stop-end OutOfMemory r' w' t' given left' out' g er et c end f =
+    let s = end-by t' given left' out' g et c end f.1 in
     record { faults = (er ∙ g.reads, f.0 ∙ g.writes); amount = s.0; front = s.1; keeps_up = s.2; written = tt }
-stop-end Help r' w' t' left' out' g er et c end f = absurd f
-stop-end Usage r' w' t' left' out' g er et c end f = absurd f
-stop-end ReadFault r' w' t' left' out' g er et c end f = absurd f
-stop-end InputTooLong r' w' t' left' out' g er et c end f = absurd f
+stop-end Help r' w' t' given left' out' g er et c end f = absurd f
+stop-end Usage r' w' t' given left' out' g er et c end f = absurd f
+stop-end ReadFault r' w' t' given left' out' g er et c end f = absurd f
+stop-end InputTooLong r' w' t' given left' out' g er et c end f = absurd f
 
 -- a read gave nothing
 pub stop-empty : {p : ℕ} {o : Options} {limit r0 r w0 w t0 t : ℕ} {left0 left out0 out : Bytes}
-    {s : Stream} {count : ℕ} (status : Status) (n r' w' t' : ℕ) (left' out' : Bytes) (block : List ℕ)
+    {s : Stream} {count : ℕ} (status : Status) (n r' w' t' given : ℕ) (left' out' : Bytes) (block : List ℕ)
     → Going p o limit r0 r w0 w t0 t left0 left out0 out s count → n ≡ 0 → 0 < length block → r' ≡ r
     → t' ≡ min (t + n) (2 ^ 64 - 1)
     → Consumes left left' (take n block) × (n ≡ 0 → 0 < length block → IsAtEnd left')
     → Finished status w w' out out' (rest s [])
-    → Stopped p o status limit r0 r' w0 w' t0 t' left0 left' out0 out'
-stop-empty {p} {o} {limit} {r0} {r} {w0} {w} {t0} {t} {left0} {left} status n r' w' t' left' out' block
+    → Stopped p o status limit r0 r' w0 w' t0 t' given left0 left' out0 out'
+stop-empty {p} {o} {limit} {r0} {r} {w0} {w} {t0} {t} {left0} {left} status n r' w' t' given left' out' block
     g none room er et c f =
     let nothing : take n block ≡ [] = ap (λ k. take k block) none in
     let consumes : Consumes left left' [] = rw (← nothing) c.0 in
     let et' : t' ≡ min (t + 0) (2 ^ 64 - 1) = et ∙ ap (λ k. min (t + k) (2 ^ 64 - 1)) none in
-    stop-end status r' w' t' left' out' g er et' consumes (c.1 none room) f
+    stop-end status r' w' t' given left' out' g er et' consumes (c.1 none room) f
 
 -- ---- where nothing was taken and nothing written
 pub nothing-front : (p : ℕ) (o : Options) (left out : Bytes) → IfSome left (λ input. Begins out out (replaced p o input))
 nothing-front p o None out = tt
 nothing-front p o (Some x) out = begins-none out (replaced p o x)
 
-pub nothing-keeps_up : (p : ℕ) (o : Options) (left out : Bytes) → OfTaken left left (KeepsUp p o out out)
-nothing-keeps_up p o left out =
-    of-taken left left (KeepsUp p o out out) [] (Consumes-nil left)
-    (keeps_up-all p o out out [] (record {
-      front = [];
-      run = [];
-      more = [];
-      parts = refl;
-      is_run = refl;
-      appends = rw (replaced-nil p o) (Appends-nil out);
-    }))
+pub nothing-keeps_up : (p : ℕ) (o : Options) (given : ℕ) (left out : Bytes)
+    → OfTaken left left (KeepsUp p o given out out)
+nothing-keeps_up p o given left out =
+    of-taken left left (KeepsUp p o given out out) [] (Consumes-nil left)
+    (keeps_up-all p o given out out [] (rw (settled-nil, replaced-nil p o) (Appends-nil out)))
 
-pub stop-memory : (p : ℕ) (o : Options) (limit r w t : ℕ) (left out : Bytes)
-    → Stopped p o OutOfMemory limit r r w w t t left left out out
-stop-memory p o limit r w t left out = record {
+pub stop-memory : (p : ℕ) (o : Options) (limit r w t given : ℕ) (left out : Bytes)
+    → Stopped p o OutOfMemory limit r r w w t t given left left out out
+stop-memory p o limit r w t given left out = record {
   faults = (refl, refl);
   amount = (
     omega arith,
     of-taken left left (λ taken. length taken ≤ limit) [] (Consumes-nil left) (omega arith),
   );
   front = nothing-front p o left out;
-  keeps_up = nothing-keeps_up p o left out;
+  keeps_up = nothing-keeps_up p o given left out;
   written = tt;
 }
 
 -- under the same options
-pub stopped-same : (p p' : ℕ) (o o' : Options) (status : Status) (limit r0 r w0 w t0 t : ℕ)
+pub stopped-same : (p p' : ℕ) (o o' : Options) (status : Status) (limit r0 r w0 w t0 t given : ℕ)
     (left0 left out0 out : Bytes) → p' ≡ p → o' ≡ o
-    → Stopped p' o' status limit r0 r w0 w t0 t left0 left out0 out
-    → Stopped p o status limit r0 r w0 w t0 t left0 left out0 out
-stopped-same p p' o o' status limit r0 r w0 w t0 t left0 left out0 out e f s =
-    subst (λ k. Stopped k o status limit r0 r w0 w t0 t left0 left out0 out) e
-    (subst (λ k. Stopped p' k status limit r0 r w0 w t0 t left0 left out0 out) f s)
+    → Stopped p' o' status limit r0 r w0 w t0 t given left0 left out0 out
+    → Stopped p o status limit r0 r w0 w t0 t given left0 left out0 out
+stopped-same p p' o o' status limit r0 r w0 w t0 t given left0 left out0 out e f s =
+    subst (λ k. Stopped k o status limit r0 r w0 w t0 t given left0 left out0 out) e
+    (subst (λ k. Stopped p' k status limit r0 r w0 w t0 t given left0 left out0 out) f s)
 
 -- ---- how a block is taken
 pub taking-start : (s : Stream) (w : ℕ) (out : Bytes) (gathered block : List ℕ)

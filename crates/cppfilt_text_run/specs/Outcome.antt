@@ -5,7 +5,7 @@ use Rattle.cppfilt_ends.specs.Moves.{Moves, Begins}
 use Rattle.demangle_printing.specs.Outcome.{Options}
 use Rattle.demangle_stream.specs.Fed.{Behind}
 use Rattle.demangle_stream.specs.Replaced.{replaced, rest}
-use Rattle.demangle_stream.specs.Runs.{run_len}
+use Rattle.demangle_stream.specs.Settled.{settled}
 use Rattle.demangle_stream.specs.declared.state.Stream.{Stream}
 use Rattle.cppfilt_run.specs.Outcome.{Amount, Faults, OfTaken}
 use Rattle.cppfilt_run.specs.Owed.{block_limit}
@@ -13,39 +13,35 @@ use Rattle.cppfilt_run.specs.declared.status.Status.{Status}
 use Rattle.cppfilt_run.specs.declared.status.Status.TheVariants.{Done, ReadFault, InputTooLong}
 
 -- ---- what was written
--- The sink was given what is due for all of these bytes but a run at their end, and maybe more.
-pub record Settles (p : ℕ) (o : Options) (out0 out1 : Option (List ℕ)) (taken : List ℕ) : Type 0 where
-  pub front : List ℕ
-  pub run : List ℕ
-  pub more : List ℕ
-  pub parts : taken ≡ front ++ run
-  pub is_run : run_len run ≡ length run
-  pub appends : Appends out0 out1 (replaced p o front ++ more)
-
--- The sink was given so much of what is due for all the bytes but a last block.
-pub record KeepsUp (p : ℕ) (o : Options) (out0 out1 : Option (List ℕ)) (taken : List ℕ) : Type 0 where
+-- The sink was given what is due for the settled part of all the bytes but those that the last read gave, and maybe
+-- more: so what a block settles is written before the next read.
+pub record KeepsUp (p : ℕ) (o : Options) (given : ℕ) (out0 out1 : Option (List ℕ)) (taken : List ℕ) : Type 0 where
   pub seen : List ℕ
   pub last : List ℕ
+  pub more : List ℕ
   pub parts : taken ≡ seen ++ last
+  pub from_last_read : length last ≤ given
   pub small : length last ≤ block_limit
-  pub settles : Settles p o out0 out1 seen
+  pub appends : Appends out0 out1 (replaced p o (settled seen) ++ more)
 
 -- ---- how a run ended
 -- what was written, where the status tells it
 abbrev pub Written : ℕ → Options → Status → (limit : ℕ) → (left0 left1 out0 out1 : Option (List ℕ)) → Type 0
 Written p o Done limit left0 left1 out0 out1 =
     IsAtEnd left1 × IfSome left0 (λ input. Appends out0 out1 (replaced p o input))
-Written p o ReadFault limit left0 left1 out0 out1 = OfTaken left0 left1 (Settles p o out0 out1)
+Written p o ReadFault limit left0 left1 out0 out1 =
+    OfTaken left0 left1 (λ taken. Appends out0 out1 (replaced p o (settled taken)))
 Written p o InputTooLong limit left0 left1 out0 out1 =
-    IfSome left0 (λ input. Settles p o out0 out1 (take limit input))
+    IfSome left0 (λ input. Appends out0 out1 (replaced p o (settled (take limit input))))
 Written p o _ limit left0 left1 out0 out1 = ⊤
 
-pub record Stopped (p : ℕ) (o : Options) (status : Status) (limit read0 read1 write0 write1 taken0 taken1 : ℕ)
+-- `given` is how many bytes the last read gave.
+pub record Stopped (p : ℕ) (o : Options) (status : Status) (limit read0 read1 write0 write1 taken0 taken1 given : ℕ)
     (left0 left1 out0 out1 : Option (List ℕ)) : Type 0 where
   pub faults : Faults status read0 read1 write0 write1
   pub amount : Amount status limit taken0 taken1 left0 left1
   pub front : IfSome left0 (λ input. Begins out0 out1 (replaced p o input))
-  pub keeps_up : OfTaken left0 left1 (KeepsUp p o out0 out1)
+  pub keeps_up : OfTaken left0 left1 (KeepsUp p o given out0 out1)
   pub written : Written p o status limit left0 left1 out0 out1
 
 -- ---- how a run goes on

@@ -124,7 +124,7 @@ pub(crate) fn filter_text<R: Source, W: Sink>(
 ) -> Status
     ensures { Stopped parse print result limit (R.faults input.old) (R.faults input.new)
         (W.faults output.old) (W.faults output.new) (R.taken input.old) (R.taken input.new)
-        (R.left input.old) (R.left input.new) (W.written output.old) (W.written output.new) }
+        (R.last input.new) (R.left input.old) (R.left input.new) (W.written output.old) (W.written output.new) }
 {
     let Ok(mut block) = Vec::from_elem(alloc, 0u8, BLOCK) else {
         return Status::OutOfMemory;
@@ -157,7 +157,7 @@ fn filter_blocks<R: Source, W: Sink>(
     requires clear { pending.old.items ≡ [] }
     ensures { Stopped stream.old.parse stream.old.print result limit (R.faults input.old) (R.faults input.new)
         (W.faults output.old) (W.faults output.new) (R.taken input.old) (R.taken input.new)
-        (R.left input.old) (R.left input.new) (W.written output.old) (W.written output.new) }
+        (R.last input.new) (R.left input.old) (R.left input.new) (W.written output.old) (W.written output.new) }
 {
     let mut taken: u64 = 0;
     while taken < limit {

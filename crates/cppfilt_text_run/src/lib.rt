@@ -5,3 +5,5 @@
 mod filter;
 pub mod program;
 pub mod run;
+
+pub use cppfilt_ends::standard;

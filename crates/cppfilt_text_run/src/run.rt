@@ -14,10 +14,11 @@ ghost use Rattle.cppfilt_lines.specs.declared.options.FilterOptions.{FilterOptio
 ghost use Rattle.cppfilt_run.specs.Outcome.{OfTaken};
 ghost use Rattle.cppfilt_run.specs.Ran.{Unread};
 ghost use Rattle.cppfilt_run.specs.StatusText.{message_of};
-ghost use Rattle.cppfilt_text_run.specs.Outcome.{KeepsUp, Settles, Stopped};
+ghost use Rattle.cppfilt_text_run.specs.Outcome.{KeepsUp, Stopped};
 ghost use Rattle.cppfilt_text_run.specs.Ran.{Ended, reads};
 ghost use Rattle.demangle_stream.specs.Replaced.{replaced};
 ghost use Rattle.demangle_stream.specs.Runs.{pieces};
+ghost use Rattle.demangle_stream.specs.Settled.{settled};
 ghost use Rattle.demangle_stream.specs.Shown.{name_of};
 
 use crate::filter::filter_text;
@@ -59,18 +60,21 @@ pub fn run<R: Source, W: Sink, E: Sink>(
     ensures front { (o : FilterOptions) (work : Work) → text_verdict_on words.items ≡ Asks o work
         → IfSome (R.left input.old)
         (λ bytes. Begins (W.written output.old) (W.written output.new) (replaced o.parse o.print bytes)) }
-    // and all that is due for the bytes that were taken, but for a run at their end and a last block of at most 2^16.
+    // and all that is due for the settled part of the bytes that were taken before the last read, which gave at most
+    // 2^16 bytes: so what a block settles, all but a run at its end that may be the front of a name, is written before
+    // the next read.
     ensures keeps_up { (o : FilterOptions) (work : Work) → text_verdict_on words.items ≡ Asks o work
         → OfTaken (R.left input.old) (R.left input.new)
-        (KeepsUp o.parse o.print (W.written output.old) (W.written output.new)) }
-    // After a failed read it is all that is due for the bytes that were taken but for a run at their end,
+        (KeepsUp o.parse o.print (R.last input.new) (W.written output.old) (W.written output.new)) }
+    // After a failed read it is just what is due for the settled part of the bytes that were taken,
     ensures read_fault_written { (o : FilterOptions) (work : Work) → text_verdict_on words.items ≡ Asks o work
         → result ≡ Status.ReadFault → OfTaken (R.left input.old) (R.left input.new)
-        (Settles o.parse o.print (W.written output.old) (W.written output.new)) }
-    // and after too long an input that for its first 2^40 bytes.
+        (λ taken. Appends (W.written output.old) (W.written output.new) (replaced o.parse o.print (settled taken))) }
+    // and after too long an input that for the settled part of its first 2^40 bytes.
     ensures input_too_long_written { (o : FilterOptions) (work : Work) → text_verdict_on words.items ≡ Asks o work
         → result ≡ Status.InputTooLong → IfSome (R.left input.old)
-        (λ bytes. Settles o.parse o.print (W.written output.old) (W.written output.new) (take (2 ^ 40) bytes)) }
+        (λ bytes. Appends (W.written output.old) (W.written output.new)
+        (replaced o.parse o.print (settled (take (2 ^ 40) bytes)))) }
     // With no fault, an input of at most 2^40 bytes is done, unless memory ran out,
     ensures complete { (o : FilterOptions) (work : Work) → text_verdict_on words.items ≡ Asks o work
         → NoFault (R.faults input.old) (R.faults input.new) → NoFault (W.faults output.old) (W.faults output.new)
@@ -119,7 +123,7 @@ pub fn run<R: Source, W: Sink, E: Sink>(
 }
 
 /// `run`, with one definition for all that its contract says but for the message.
-fn run_by_words<R: Source, W: Sink, E: Sink>(
+pub(crate) fn run_by_words<R: Source, W: Sink, E: Sink>(
     alloc: Global,
     words: Vec<String>,
     input: &mut R,
@@ -128,7 +132,7 @@ fn run_by_words<R: Source, W: Sink, E: Sink>(
 ) -> Status
     ensures ended { Ended (text_verdict_on words.items) result (R.faults input.old) (R.faults input.new)
         (W.faults output.old) (W.faults output.new) (R.taken input.old) (R.taken input.new)
-        (R.left input.old) (R.left input.new) (W.written output.old) (W.written output.new) }
+        (R.last input.new) (R.left input.old) (R.left input.new) (W.written output.old) (W.written output.new) }
     ensures message { NoFault (E.faults errors.old) (E.faults errors.new) → result ≢ Status.OutOfMemory
         → result ≢ Status.Usage → Appends (E.written errors.old) (E.written errors.new) (message_of result) }
 {
@@ -149,7 +153,7 @@ fn run_judged<R: Source, W: Sink, E: Sink>(
     ensures ended { Ended (judgement_by text_command (map string_bytes all.now)) result
         (R.faults input.old) (R.faults input.new)
         (W.faults output.old) (W.faults output.new) (R.taken input.old) (R.taken input.new)
-        (R.left input.old) (R.left input.new) (W.written output.old) (W.written output.new) }
+        (R.last input.new) (R.left input.old) (R.left input.new) (W.written output.old) (W.written output.new) }
     ensures message { NoFault (E.faults errors.old) (E.faults errors.new) → result ≢ Status.OutOfMemory
         → result ≢ Status.Usage → Appends (E.written errors.old) (E.written errors.new) (message_of result) }
 {
@@ -180,7 +184,7 @@ fn perform<R: Source, W: Sink>(
     ensures { Stopped request.now.options.parse request.now.options.print result (2 ^ 40)
         (R.faults input.old) (R.faults input.new) (W.faults output.old) (W.faults output.new)
         (R.taken input.old) (R.taken input.new)
-        (R.left input.old) (R.left input.new) (W.written output.old) (W.written output.new) }
+        (R.last input.new) (R.left input.old) (R.left input.new) (W.written output.old) (W.written output.new) }
 {
     let options = &request.options;
     filter_text(

@@ -1,6 +1,6 @@
 //! A whole text with its names replaced.
 
-ghost use Rattle.std.specs.Prelude.{◌≡◌, ◌≢◌, ◌≤◌, ◌++◌, length, OnOk};
+ghost use Rattle.std.specs.Prelude.{◌≡◌, ◌≢◌, ◌≤◌, length, OnOk};
 ghost use Rattle.demangle_stream.specs.Appended.{Appended};
 ghost use Rattle.demangle_stream.specs.Replaced.{replaced};
 ghost use Rattle.demangle_stream.specs.Shown.{becomes, is_named, name_len};

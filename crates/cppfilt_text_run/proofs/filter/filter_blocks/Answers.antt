@@ -15,12 +15,12 @@ loop-taken-init g c = (
 -- a read failed
 pub returns-in-Err : goal.returns-in-Err
 returns-in-Err g c =
-    stop-read _ _ _ c.loop-taken.invariant.0 c.in-Err.ensures.cause c.in-Err.ensures.count c.in-Err.ensures.bytes
+    stop-read _ _ _ _ c.loop-taken.invariant.0 c.in-Err.ensures.cause c.in-Err.ensures.count c.in-Err.ensures.bytes
 
 pub returns-in-Err-read_front : goal.returns-in-Err-read_front
 returns-in-Err-read_front g c =
     let refused = c.in-Err-read_front.ensures in
-    stop-read _ _ _ c.loop-taken.invariant.0 refused.cause refused.count refused.bytes
+    stop-read _ _ _ _ c.loop-taken.invariant.0 refused.cause refused.count refused.bytes
 
 -- one byte more than is taken
 pub returns-in-Ok-read_front : goal.returns-in-Ok-read_front
@@ -36,8 +36,8 @@ returns-in-Ok-read_front g c =
     (let k = c.in-Ok-read_front.ensures.kept in
     let h = c.loop-taken.invariant.2 in
     omega arith) in
-    stop-long count _ _ _ (take count block) c.loop-taken.invariant.0 full one c.in-Ok-read_front.ensures.cause
-    c.in-Ok-read_front.ensures.count (length-take-le count block small) c.in-Ok-read_front.ensures.bytes.0
+    stop-long count _ _ _ _ (take count block) c.loop-taken.invariant.0 full one c.in-Ok-read_front.ensures.cause
+    c.in-Ok-read_front.ensures.last c.in-Ok-read_front.ensures.count (length-take-le count block small) c.in-Ok-read_front.ensures.bytes.0
 
 -- the end of the input
 pub returns-in-Ok-eq0 : goal.returns-in-Ok-eq0
@@ -47,7 +47,7 @@ returns-in-Ok-eq0 g c =
     (let k = c.in-Ok-eq0.ensures.kept in
     let h = c.loop-taken.invariant.2 in
     omega arith) in
-    stop-empty c.end_input.result c.in-Ok-eq0.field-0 _ _ _ _ _ c.read_front.new.block c.loop-taken.invariant.0 none
+    stop-empty c.end_input.result c.in-Ok-eq0.field-0 _ _ _ _ _ _ c.read_front.new.block c.loop-taken.invariant.0 none
     room c.in-Ok-eq0.ensures.cause c.in-Ok-eq0.ensures.count c.in-Ok-eq0.ensures.bytes c.end_input.ensures
 
 pub returns-in-Ok-eq0-read_front : goal.returns-in-Ok-eq0-read_front
@@ -58,7 +58,7 @@ returns-in-Ok-eq0-read_front g c =
     (let k = c.in-Ok-eq0-read_front.ensures.kept in
     let h = c.loop-taken.invariant.2 in
     omega arith) in
-    stop-empty c.end_input-in-Ok-eq0-read_front.result c.in-Ok-eq0-read_front.field-0 _ _ _ _ _ c.read_front-2.new.block
+    stop-empty c.end_input-in-Ok-eq0-read_front.result c.in-Ok-eq0-read_front.field-0 _ _ _ _ _ _ c.read_front-2.new.block
     c.loop-taken.invariant.0 none room ended.cause ended.count ended.bytes c.end_input-in-Ok-eq0-read_front.ensures
 
 -- the sink refused a part of what is due for a block
@@ -73,9 +73,9 @@ returns-in-Err-take_block g c =
     omega arith) in
     let refused = c.in-Err-take_block.ensures.gives in
     rw c.status_of.ensures
-    (stop-write c.in-Err-take_block.fault c.in-Ok.count _ _ _ _ _ (take c.in-Ok.count c.read_front.new.block)
-    c.loop-taken.invariant.0 c.in-Ok.ensures.cause c.in-Ok.ensures.count size block within c.in-Ok.ensures.bytes.0
-    (refused []).0 (λ more. (refused more).1))
+    (stop-write c.in-Err-take_block.fault c.in-Ok.count _ _ _ _ _ _ (take c.in-Ok.count c.read_front.new.block)
+    c.loop-taken.invariant.0 c.in-Ok.ensures.cause c.in-Ok.ensures.last c.in-Ok.ensures.count size block
+    within c.in-Ok.ensures.bytes.0 (refused []).0 (λ more. (refused more).1))
 
 -- one more block
 pub loop-taken-preserved : goal.loop-taken-preserved

@@ -4,7 +4,7 @@ use Rattle.cppfilt_text_run.proofs.RunLaws.{stop-memory, stopped-same}
 use Rattle.cppfilt_text_run.proofs.filter.filter_text.Goals as goal
 
 pub returns-in_default : goal.returns-in_default
-returns-in_default g c = stop-memory c.args.parse c.args.print c.args.limit _ _ _ _ _
+returns-in_default g c = stop-memory c.args.parse c.args.print c.args.limit _ _ _ _ _ _
 
 pub filter_blocks-requires-clause-begins : goal.filter_blocks-requires-clause-begins
 filter_blocks-requires-clause-begins g c more =
@@ -16,4 +16,4 @@ filter_blocks-requires-clause-begins g c more =
 pub returns : goal.returns
 returns g c =
     let o = c.new-stream.ensures.options in
-    stopped-same _ _ _ _ _ _ _ _ _ _ _ _ _ _ _ _ o.0 o.1 c.filter_blocks.ensures
+    stopped-same _ _ _ _ _ _ _ _ _ _ _ _ _ _ _ _ _ o.0 o.1 c.filter_blocks.ensures
