@@ -1,0 +1,16 @@
+//! The parts of a linker name: its kind, scope, base, what is behind them and how many parameters it has; and an index
+//! of names by scope.
+#![tactic(auto)]
+
+#[cfg(test)]
+mod cases;
+mod index;
+mod kind;
+mod parts;
+mod signature;
+#[cfg(test)]
+mod tests;
+
+pub use index::{Group, Index, index_of};
+pub use kind::Kind;
+pub use parts::{Parts, parts_of};
