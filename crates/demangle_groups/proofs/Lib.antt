@@ -1,1 +1,2 @@
 pub mod BuilderLaws
+pub mod OnceLaws
