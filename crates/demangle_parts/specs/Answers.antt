@@ -6,6 +6,7 @@ use Rattle.demangle_context.specs.declared.error.DemangleError.{DemangleError}
 use Rattle.demangle_context.specs.declared.error.DemangleError.TheVariants as printing
 use Rattle.demangle_parts_text.specs.Divided.{shown}
 use Rattle.demangle_parts_text.specs.Laws.{in_scope}
+use Rattle.demangle_parts_text.specs.Split.{Cut}
 use Rattle.cpp_demangle.specs.Telling.{Telling}
 use Rattle.demangle_parts.specs.Parts.{Divided, Into, Not, Parts}
 use Rattle.demangle_parts.specs.declared.parts.Parts as code
@@ -21,6 +22,6 @@ IsDivided d (Err printing.Sink) = ⊥
 IsDivided (Into p) (Err e) = ⊥
 IsDivided (Not f) (Err e) = error_at f ≡ e
 
--- Scope and `::`, where there is one, base and what is behind it are the text.
-abbrev pub IsWholeText : Telling → code.Parts → Type 0
-IsWholeText t p = let c = (parts_in p).cut in in_scope c.scope c.base ++ c.after ≡ text_of t.0
+-- Scope and `::`, where there is one, base and what is behind it are this text.
+abbrev pub JoinsTo : Telling → Cut → Type 0
+JoinsTo t c = in_scope c.scope c.base ++ c.after ≡ text_of t.0

@@ -11,6 +11,7 @@ mod signature;
 #[cfg(test)]
 mod tests;
 
-pub use index::{Group, Index, index_of};
+pub use demangle_groups::{Group, Index};
+pub use index::index_of;
 pub use kind::Kind;
 pub use parts::{Parts, parts_of};

@@ -3,7 +3,7 @@
 ghost use Rattle.std.specs.Prelude.{◌≡◌, IfOk, option_map};
 ghost use Rattle.cpp_demangle.specs.Contents.{telling_of};
 ghost use Rattle.cpp_demangle.specs.SymbolOf.{contents_of};
-ghost use Rattle.demangle_parts.specs.Answers.{IsDivided, IsWholeText, parts_in};
+ghost use Rattle.demangle_parts.specs.Answers.{IsDivided, JoinsTo, parts_in};
 ghost use Rattle.demangle_parts.specs.Parts.{divided, for_parts};
 
 use crate::kind::Kind;
@@ -58,26 +58,30 @@ impl Parts {
     }
 }
 
-/// The parts of a name, printed under these options but without a result type. Errors are those of
-/// `Symbol::structured_demangle` under these options, and never `Sink`.
+/// The parts of a name, printed under these options but without a result type. Scope and `::`, where there is one, base
+/// and what is behind it are the text that `Symbol::demangle_with_options` gives then. Errors are exactly those of
+/// `Symbol::structured_demangle` then, never `Sink`, and `OutOfMemory` where there is no memory.
 pub fn parts_of<T: RawBytes>(
     alloc: Global,
     symbol: &Symbol<T>,
     print: &DemangleOptions,
 ) -> Result<Parts, DemangleError>
     ensures parts { IsDivided (divided print.now (contents_of symbol.now)) result }
-    ensures whole { IfOk result (IsWholeText (telling_of (for_parts print.now) (contents_of symbol.now))) }
+    ensures joins { IfOk result
+        (λ p. JoinsTo (telling_of (for_parts print.now) (contents_of symbol.now)) (parts_in p).cut) }
 {
     let signature = signature(symbol.parsed(), symbol.substitutions());
     let options = print.no_return_type();
     let mut heard = Heard::new(alloc);
-    symbol.structured_demangle(alloc, &mut heard, &options)?;
-    match heard.divided(signature.has_parts) {
-        None => Err(DemangleError::OutOfMemory),
-        Some(divided) => Ok(Parts {
-            kind: signature.kind,
-            divided,
-            arity: signature.arity,
-        }),
+    match symbol.structured_demangle(alloc, &mut heard, &options) {
+        Err(error) => Err(error),
+        Ok(()) => match heard.divided(signature.has_parts) {
+            None => Err(DemangleError::OutOfMemory),
+            Some(divided) => Ok(Parts {
+                kind: signature.kind,
+                divided,
+                arity: signature.arity,
+            }),
+        },
     }
 }

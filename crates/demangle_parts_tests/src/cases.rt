@@ -1,7 +1,7 @@
 //! Names and their parts, made elsewhere, as `tools/parts_cases.py` writes them.
 //! A case is a name; and its kind, scope, base, what is behind the base, and arity, or why it has none.
 
-pub(crate) static CASES: [(&[u8], &str); 344] = [
+pub(crate) static CASES: [(&[u8], &str); 343] = [
     (
         b"_ZN5space3fooEibc",
         "Function|space|foo|(int, bool, char)|3",
@@ -450,7 +450,6 @@ pub(crate) static CASES: [(&[u8], &str); 344] = [
     (b"_Z8_GLOBAL_v", "Function|-|_GLOBAL_|()|0"),
     (b"_Z3a.bv", "Function|-|a.b|()|0"),
     (b"_Z2f-v", "Read UnexpectedText"),
-    (b"_Z2\xc3\xa9v", "Function|-|\u{e9}|()|0"),
     (b"_ZZNH1a1fEvE1bi", "Function|-|a::f()::b(this int)||1"),
     (
         b"_ZN1bUlN1aUlT_E_ET_E_E",

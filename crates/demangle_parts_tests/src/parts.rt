@@ -1,10 +1,9 @@
-//! The parts of names, and an index of names.
+//! The parts of names.
 
 use crate::cases::CASES;
-use crate::{Group, index_of, parts_of};
 use cpp_demangle::{BorrowedSymbol, DemangleOptions, Symbol};
+use demangle_parts::parts_of;
 use std::alloc::{AllocError, Global};
-use std::test::Fail;
 
 /// The parts of a name as one text, or why it has none.
 fn shown(alloc: Global, name: &[u8]) -> Result<String, AllocError> {
@@ -35,38 +34,42 @@ fn names_have_their_parts(rt: HostRuntime) -> Result<(), AllocError> {
     Ok(())
 }
 
-/// Names of which each has a scope of its own, none or a refusal.
-static NAMES: [&[u8]; 6] = [
-    b"_ZN1a1bEv",
-    b"_Z",
-    b"_Z1fv",
-    b"_ZN1a1cE",
-    b"_Z1fT_",
-    b"_ZNSt6vectorIiSaIiEE9push_backERKi",
+/// Names of each kind, and some whose parts are easily taken for others.
+static ROWS: [(&[u8], &str); 11] = [
+    // A scope in a class of a template, and one in a namespace.
+    (
+        b"_ZNSt6vectorIiSaIiEE9push_backERKi",
+        "Function|std::vector<int, std::allocator<int> >|push_back|(int const&)|1",
+    ),
+    (b"_ZSt4cout", "Data|std|cout||-"),
+    // Template arguments go to the base, and the result isn't counted.
+    (b"_Z1fIiEvT_", "Function|-|f<int>|(int)|1"),
+    (b"_ZTV1a", "Special|-|{vtable(a)}||-"),
+    (
+        b"_GLOBAL__I__Z1fv",
+        "Keyed|-|global constructors keyed to f()||-",
+    ),
+    (
+        b"___Z1fv_block_invoke",
+        "Block|-|invocation function for block in f()||-",
+    ),
+    (b"Pi", "TopType|-|int*||-"),
+    // What stands in a function has no scope.
+    (
+        b"_ZZ1fvENKUlvE_clEv",
+        "Function|-|f()::{lambda()#1}::operator()() const||0",
+    ),
+    (b"_Z1fT_", "Print Reference(BadTemplateArgReference)"),
+    (b"_Z", "Read UnexpectedEnd"),
+    // The cases from elsewhere have this as no name: they were made before identifiers held characters past ASCII.
+    (b"_Z2\xc3\xa9v", "Function|-|\u{e9}|()|0"),
 ];
 
-/// The groups of an index as one text: each scope with its positions.
-fn listed(alloc: Global, groups: &[Group]) -> Result<String, AllocError> {
-    let mut text = String::new(alloc);
-    for group in groups {
-        let scope = group.scope().unwrap_or("-");
-        let positions = group.positions();
-        text.push_str(format!(in alloc; "{scope}{positions:?};")?.as_str())?;
-    }
-    Ok(text)
-}
-
 #[test]
-fn names_stand_in_the_groups_of_their_scopes(rt: HostRuntime) -> Result<(), Fail> {
-    let alloc = rt.alloc();
-    let mut names = Vec::new(alloc);
-    for name in &NAMES {
-        names.push(name.to_vec(alloc)?)?;
+fn names_of_each_kind_have_their_parts(rt: HostRuntime) -> Result<(), AllocError> {
+    for (name, parts) in &ROWS {
+        let found = shown(rt.alloc(), *name)?;
+        assert_eq!(rt; found.as_str(), *parts, "at {name:?}");
     }
-    let index = index_of(alloc, names.as_slice(), &DemangleOptions::new())?;
-    let groups = listed(alloc, index.groups())?;
-    let wanted = "-[2];a[0, 3];std::vector<int, std::allocator<int> >[5];";
-    assert_eq!(rt; groups.as_str(), wanted);
-    assert_eq!(rt; index.refused(), [1, 4].as_slice());
     Ok(())
 }
