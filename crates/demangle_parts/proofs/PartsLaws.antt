@@ -12,15 +12,13 @@ use Rattle.demangle_meets.specs.Seen.{Call, Grows, HaveText, Seen, events_of}
 use Rattle.demangle_context.specs.TroubleOf.{error_at}
 use Rattle.demangle_context.specs.declared.error.DemangleError.{DemangleError}
 use Rattle.demangle_context.specs.declared.error.DemangleError.TheVariants as printing
-use Rattle.demangle_parts_text.proofs.CutLaws.{cut-joins}
-use Rattle.demangle_parts_text.proofs.ItemLaws.{keeps}
 use Rattle.demangle_parts_text.specs.Divided.{IsCutOf, IsWhole, shown}
 use Rattle.demangle_parts_text.specs.Items.{Items, items, text_in}
-use Rattle.demangle_parts_text.specs.Laws.{in_scope}
+use Rattle.demangle_parts_text.specs.Laws.{JoinsCut, KeepsText, in_scope}
 use Rattle.demangle_parts_text.specs.Split.{Cut, cut_if}
 use Rattle.demangle_parts_text.specs.declared.divided.Divided as text
 use Rattle.cpp_demangle.specs.Contents.{Contents, telling_of}
-use Rattle.cpp_demangle.specs.Telling.{Ends, Stops, Telling, TellsAll}
+use Rattle.cpp_demangle.specs.Telling.{Ends, Stops, Telling, Tells, TellsAll}
 use Rattle.demangle_parts.specs.Answers.{IsDivided, JoinsTo}
 use Rattle.demangle_parts.specs.Parts.{Divided, Into, Not, divided, divided_by, for_parts, parts_with, signature_of}
 use Rattle.demangle_parts.specs.declared.signature.Signature.{Signature}
@@ -71,28 +69,31 @@ parts-no : {X : Type 0} (s : Signature) (a : Answer X) (f : Fault) → (told a).
 parts-no s (yes es state) f e = absurd cc
 parts-no s (no es g) f e = let same : g ≡ f = cc in ap (λ z. Not z) same
 
-pub are-parts : (o : Options) (s : Contents) (old new : Seen) (d : text.Divided) (g : Signature)
-    → old.calls ≡ Some [] → TellsAll old new (telling_of (for_parts o) s) → g ≡ signature_of s.table s.tree
-    → IsCutOf g.has_parts new.calls (Some d)
+pub are-parts : (o : Options) (s : Contents) (d : text.Divided) (g : Signature) {old new : Seen} {limit : ℕ}
+    {t : Telling} {v : Unit {0}} → Tells old new limit t (Ok v) → t ≡ telling_of (for_parts o) s
+    → old.calls ≡ Some [] → g ≡ signature_of s.table s.tree → IsCutOf g.has_parts new.calls (Some d)
     → divided o s ≡ Into (record { kind = g.kind; cut = shown d; arity = g.arity })
-are-parts o s old new d g e h is cut =
+are-parts o s d g {old} {new} {limit} {t} {v} h same e is cut =
     let a = printed (with_table s.table s.bytes) (for_parts o) s.tree in
     ap (λ z. divided_by z a) (sym is)
-    ∙ parts-yes g a h.no_fault
+    ∙ parts-yes g a (sym (ap (λ z. z.1) same) ∙ h.ends.no_fault)
+    ∙ ap (λ es. Into (parts_with g es)) (sym (ap (λ z. z.0) same))
     ∙ ap (λ c. Into (record { kind = g.kind; cut = c; arity = g.arity }))
-    (sym (cut-told g.has_parts old new (telling_of (for_parts o) s) d e h cut))
+    (sym (cut-told g.has_parts old new t d e h.ends cut))
 
-joins-if : (has : Bool) (i : Items)
+joins-if : JoinsCut → (has : Bool) (i : Items)
     → in_scope (cut_if has i).scope (cut_if has i).base ++ (cut_if has i).after ≡ text_in i
-joins-if true i = cut-joins i
-joins-if false i = append-nil (text_in i)
+joins-if joins true i = joins i
+joins-if joins false i = append-nil (text_in i)
 
-pub join-to : (has : Bool) (old new : Seen) (t : Telling) (d : text.Divided) → old.calls ≡ Some []
-    → TellsAll old new t → IsCutOf has new.calls (Some d) → JoinsTo t (shown d)
-join-to has old new t d e h cut =
-    ap (λ c. in_scope c.scope c.base ++ c.after) (cut-told has old new t d e h cut)
-    ∙ joins-if has (items t.0)
-    ∙ keeps t.0 h.are_closed
+pub join-to : (o : Options) (s : Contents) (d : text.Divided) (has : Bool) {old new : Seen} {limit : ℕ} {t : Telling}
+    {v : Unit {0}} → Tells old new limit t (Ok v) → t ≡ telling_of (for_parts o) s → old.calls ≡ Some []
+    → IsCutOf has new.calls (Some d) → JoinsCut → KeepsText → JoinsTo (telling_of (for_parts o) s) (shown d)
+join-to o s d has {old} {new} {limit} {t} {v} h same e cut joins keeps =
+    ap (λ c. in_scope c.scope c.base ++ c.after) (cut-told has old new t d e h.ends cut)
+    ∙ joins-if joins has (items t.0)
+    ∙ keeps t.0 h.ends.are_closed
+    ∙ ap (λ z. text_of z.0) same
 
 -- ---- the refusals
 stops : (d : Divided) (e : DemangleError) (f : Fault) → d ≡ Not f → error_at f ≡ e
@@ -118,15 +119,22 @@ never-rose : (a b : ℕ) → a ≡ 0 → b ≡ 0 → Rose a b → ⊥
 never-rose a b p q (inl l) = omega arith
 never-rose a b p q (inr e) = omega arith
 
-pub refused-by : (o : Options) (s : Contents) (old new : Seen) (limit : ℕ) (e : DemangleError) → old.faults ≡ 0
+refused-as : (o : Options) (s : Contents) (old new : Seen) (limit : ℕ) (e : DemangleError) → old.faults ≡ 0
     → new.faults ≡ 0 → Ends old new limit (telling_of (for_parts o) s) (Err e) → IsDivided (divided o s) (Err e)
-refused-by o s old new limit (printing.Reference x) p q h =
+refused-as o s old new limit (printing.Reference x) p q h =
     stopped o s old new (printing.Reference x) h (λ z. cc) (λ z. cc)
-refused-by o s old new limit printing.TooMuchRecursion p q h =
+refused-as o s old new limit printing.TooMuchRecursion p q h =
     stopped o s old new printing.TooMuchRecursion h (λ z. cc) (λ z. cc)
-refused-by o s old new limit printing.NotUtf8 p q h =
+refused-as o s old new limit printing.NotUtf8 p q h =
     stopped o s old new printing.NotUtf8 h (λ z. cc) (λ z. cc)
-refused-by o s old new limit printing.TooLong p q h =
+refused-as o s old new limit printing.TooLong p q h =
     stopped o s old new printing.TooLong h (λ z. cc) (λ z. cc)
-refused-by o s old new limit printing.Sink p q h = absurd (never-rose old.faults new.faults p q h.rose)
-refused-by o s old new limit printing.OutOfMemory p q h = tt
+refused-as o s old new limit printing.Sink p q h = absurd (never-rose old.faults new.faults p q h.rose)
+refused-as o s old new limit printing.OutOfMemory p q h = tt
+
+pub refused-by : (o : Options) (s : Contents) (e : DemangleError) {old new : Seen} {limit : ℕ} {t : Telling}
+    → Tells old new limit t (Err e) → t ≡ telling_of (for_parts o) s → old.faults ≡ 0 → new.faults ≡ 0
+    → IsDivided (divided o s) (Err e)
+refused-by o s e {old} {new} {limit} {t} h same p q =
+    let E : Telling → Type 0 = λ z. Ends old new limit z (Err e) in
+    refused-as o s old new limit e p q (subst E same h.ends)

@@ -1,6 +1,6 @@
 -- Laws on what a name's tree says of its parts.
-use Rattle.std.proofs.Common.{◌≡◌, ◌∙◌, ℕ, Bool, true, false, not, List, [], ◌∷◌, length, drop, map, get_or, Some, is_some}
-use Rattle.std.proofs.Common.{Vec, refl, sym, ap, arith}
+use Rattle.std.proofs.Common.{◌≡◌, ◌∙◌, ℕ, Bool, true, false, not, List, [], ◌∷◌, length, drop, map, get_or, Some, None}
+use Rattle.std.proofs.Common.{Option, is_some, Vec, refl, sym, ap, arith}
 use Rattle.std.specs.declared.alloc.Global.{Global}
 use Rattle.demangle_core.specs.Core.{Core, Tag, end, node, trees}
 use Rattle.demangle_core.specs.Lookups.{as_prefix, template_args}
@@ -27,6 +27,7 @@ use Rattle.demangle_nodes.specs.TreeNodes.{tree_of_encoding, tree_of_mangled_nam
 use Rattle.demangle_printing.specs.Trees.{trees_of}
 use Rattle.demangle_parts.specs.Parts.{are_void, count, is_local, is_void, is_void_builtin, of_encoding, signature_of}
 use Rattle.demangle_parts.specs.Parts.{without_result}
+use Rattle.demangle_parts.specs.declared.kind.Kind.{Kind}
 use Rattle.demangle_parts.specs.declared.kind.Kind.TheVariants as kind
 use Rattle.demangle_parts.specs.declared.signature.Signature.{Signature}
 
@@ -75,6 +76,9 @@ trees_of-trees t p [] = refl
 trees_of-trees t p (x ∷ xs) = ap (λ l. node (t x) (p x) end ∷ l) (trees_of-trees t p xs)
 
 -- ---- the encoding
+abbrev signed : Kind → Bool → Option ℕ → Signature
+signed k p a = record { kind = k; has_parts = p; arity = a }
+
 abbrev for_function : Table → Name → List Core → Signature
 for_function table n types = record {
   kind = kind.Function;
@@ -100,6 +104,26 @@ pub of-data : (table : Table) (x : Encoding) (n : Name) → x ≡ encoding.Data 
 of-data table x n e =
     ap (λ z. of_encoding table (tree_of_encoding z)) e
     ∙ ap (λ p. of_encoding table (node Tag.EncodingData p end)) (encoding_data n)
+
+-- as the code puts it together
+pub function-signature : (table : Table) (x : Encoding) (n : Name) (types : BareFunctionType) (l a : Bool)
+    (slice : List TypeHandle) (k : ℕ) → x ≡ encoding.Function n types → l ≡ is_local (tree_of_name n)
+    → a ≡ is_some (template_args as_prefix table (tree_of_name n)) → slice ≡ types.0.items
+    → k ≡ count (without_result a (map tree_of_type_handle slice))
+    → record { kind = kind.Function; has_parts = not l; arity = Some k } ≡ of_encoding table (tree_of_encoding x)
+function-signature table x n types l a slice k e f g h c =
+    let args = is_some (template_args as_prefix table (tree_of_name n)) in
+    let same : k ≡ count (without_result args (map tree_of_type_handle types.0.items)) =
+    c ∙ ap (λ b. count (without_result b (map tree_of_type_handle slice))) g
+    ∙ ap (λ s. count (without_result args (map tree_of_type_handle s))) h in
+    ap (λ b. signed kind.Function (not b) (Some k)) f
+    ∙ ap (λ i. signed kind.Function (not (is_local (tree_of_name n))) (Some i)) same
+    ∙ sym (of-function table x n types e)
+
+pub data-signature : (table : Table) (x : Encoding) (n : Name) (l : Bool) → x ≡ encoding.Data n
+    → l ≡ is_local (tree_of_name n)
+    → record { kind = kind.Data; has_parts = not l; arity = None } ≡ of_encoding table (tree_of_encoding x)
+data-signature table x n l e f = ap (λ b. signed kind.Data (not b) None) f ∙ sym (of-data table x n e)
 
 -- ---- the whole name
 pub of-mangled : (table : Table) (x : MangledName) (a : Encoding) (b : Vec CloneSuffix Global)

@@ -2,10 +2,12 @@
 
 ghost use Rattle.std.specs.Prelude.{◌≡◌, List, [], ◌∷◌, ◌++◌, IfErr, IfOk, OnOk, length};
 ghost use Rattle.demangle_context.specs.declared.error.DemangleError.TheVariants.{OutOfMemory};
+ghost use Rattle.cpp_demangle.specs.SymbolOf.{contents_of};
 ghost use Rattle.demangle_groups.specs.Kept.{Keeps};
 ghost use Rattle.demangle_groups.specs.Places.{Entry, Gathers, HasScopes, IsIndexOf, Rises, positions};
 ghost use Rattle.demangle_groups.specs.Shown.{refused_of, shown};
-ghost use Rattle.demangle_parts.specs.Entries.{entries, entry, entry_in, has_no_text};
+ghost use Rattle.demangle_parts.specs.Entries.{entries, entry, entry_in, entry_of, has_no_text};
+ghost use Rattle.demangle_parts.specs.Parts.{divided};
 
 use crate::parts::{Parts, parts_of};
 use cpp_demangle::{BorrowedSymbol, DemangleOptions, Symbol};
@@ -14,7 +16,24 @@ use demangle_groups::{Index, IndexBuilder};
 use demangle_text::Error;
 use std::alloc::{AllocError, Global};
 
-/// The parts of a name; `None` where it has no text. `AllocError` comes only where there is no memory.
+/// The parts of a name that was read; `None` where its tree isn't printed.
+fn parts_of_symbol(
+    alloc: Global,
+    symbol: &BorrowedSymbol<'_>,
+    print: &DemangleOptions,
+) -> Result<Option<Parts>, AllocError>
+    ensures { IfOk result (λ parts. entry_in parts ≡ entry_of (divided print.now (contents_of symbol.now))) }
+{
+    match parts_of(alloc, symbol, print) {
+        Ok(parts) => Ok(Some(parts)),
+        Err(error) => match error {
+            DemangleError::OutOfMemory => Err(AllocError),
+            _ => Ok(None),
+        },
+    }
+}
+
+/// The parts of a name; `None` where it has no text.
 fn parts_of_name(
     alloc: Global,
     name: &[u8],
@@ -22,15 +41,13 @@ fn parts_of_name(
 ) -> Result<Option<Parts>, AllocError>
     ensures { IfOk result (λ parts. entry_in parts ≡ entry print.now name.now) }
 {
-    let symbol: BorrowedSymbol<'_> = match Symbol::new(alloc, name) {
-        Ok(symbol) => symbol,
-        Err(Error::OutOfMemory) => return Err(AllocError),
-        Err(_) => return Ok(None),
-    };
-    match parts_of(alloc, &symbol, print) {
-        Ok(parts) => Ok(Some(parts)),
-        Err(DemangleError::OutOfMemory) => Err(AllocError),
-        Err(_) => Ok(None),
+    let symbol: Result<BorrowedSymbol<'_>, Error> = Symbol::new(alloc, name);
+    match symbol {
+        Ok(symbol) => parts_of_symbol(alloc, &symbol, print),
+        Err(error) => match error {
+            Error::OutOfMemory => Err(AllocError),
+            _ => Ok(None),
+        },
     }
 }
 

@@ -7,10 +7,10 @@ ghost use Rattle.demangle_parts.specs.Answers.{IsDivided, JoinsTo, parts_in};
 ghost use Rattle.demangle_parts.specs.Parts.{divided, for_parts};
 
 use crate::kind::Kind;
-use crate::signature::signature;
+use crate::signature::signature_of;
 use cpp_demangle::{DemangleOptions, RawBytes, Symbol};
 use demangle_context::DemangleError;
-use demangle_parts_text::{Divided, Heard};
+use demangle_parts_text::{Divided, Heard, joins_cut, keeps_text};
 use std::alloc::Global;
 
 /// A linker name in parts, printed without a result type.
@@ -70,8 +70,11 @@ pub fn parts_of<T: RawBytes>(
     ensures joins { IfOk result
         (λ p. JoinsTo (telling_of (for_parts print.now) (contents_of symbol.now)) (parts_in p).cut) }
 {
-    let signature = signature(symbol.parsed(), symbol.substitutions());
+    let signature = signature_of(symbol.parsed(), symbol.substitutions());
     let options = print.no_return_type();
+    // Laws: what is divided has the text of what was heard.
+    keeps_text();
+    joins_cut();
     let mut heard = Heard::new(alloc);
     match symbol.structured_demangle(alloc, &mut heard, &options) {
         Err(error) => Err(error),

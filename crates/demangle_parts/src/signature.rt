@@ -126,7 +126,7 @@ fn of_encoding(encoding: &Encoding, subs: &SubstitutionTable) -> Signature
 }
 
 /// What the tree of a name says, with its table of components.
-pub(crate) fn signature(name: &MangledName, subs: &SubstitutionTable) -> Signature
+pub(crate) fn signature_of(name: &MangledName, subs: &SubstitutionTable) -> Signature
     ensures { result ≡ signature_of (table_of subs.now) (tree_of_mangled_name name.now) }
 {
     match name {
