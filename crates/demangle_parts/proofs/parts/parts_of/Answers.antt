@@ -1,4 +1,5 @@
 use Rattle.std.proofs.Common.{◌∙◌, ap, refl}
+use Rattle.demangle_nodes.specs.TreeNodes.{tree_of_mangled_name}
 use Rattle.cpp_demangle.specs.Contents.{telling_of}
 use Rattle.cpp_demangle.specs.SymbolOf.{contents_of}
 use Rattle.demangle_parts.specs.Parts.{signature_of}
@@ -17,7 +18,7 @@ returns-in-Some-clause-parts g c =
     (ap (λ o. telling_of o (contents_of c.args.symbol.now)) c.no_return_type-options.ensures)
     c.new-heard.ensures.calls
     (c.signature_of-signature.ensures
-    ∙ ap (λ t. signature_of t _) c.substitutions.ensures
+    ∙ ap (λ t. signature_of t (tree_of_mangled_name c.parsed.result.now)) c.substitutions.ensures
     ∙ ap (λ x. signature_of (contents_of c.args.symbol.now).table x) c.parsed.ensures)
     c.in-Some.ensures
 
