@@ -1,6 +1,6 @@
 -- Laws on the scopes of names.
-use Rattle.std.proofs.Common.{◌≡◌, ◌∙◌, ℕ, ◌+◌, ◌<◌, Bool, true, false, cond, not, List, [], ◌∷◌, ◌++◌, length, map, take}
-use Rattle.std.proofs.Common.{get_or, Vec, Some, None, refl, sym, ap, Ok, Err, arith}
+use Rattle.std.proofs.Common.{◌≡◌, ◌∙◌, ℕ, ◌+◌, ◌<◌, Bool, cond, not, List, [], ◌∷◌, ◌++◌, length, map, take}
+use Rattle.std.proofs.Common.{get_or, Vec, None, refl, sym, ap, Err}
 use Rattle.std.proofs.lemmas.List.{map_more}
 use Rattle.std.specs.declared.alloc.Global.{Global}
 use Rattle.demangle_core.specs.Core.{Core}
@@ -14,7 +14,7 @@ use Rattle.demangle_printing.specs.State.{Answer, yes, no}
 use Rattle.demangle_printing.specs.Trees.{with_table}
 use Rattle.demangle_context.specs.declared.error.DemangleError.{DemangleError}
 use Rattle.demangle_context.specs.declared.error.DemangleError.TheVariants as printing
-use Rattle.demangle_groups.specs.Places.{Entry, is_refused, positions, positions_from}
+use Rattle.demangle_groups.specs.Places.{is_refused, positions, positions_from}
 use Rattle.cpp_demangle.specs.Contents.{Contents, contents}
 use Rattle.cpp_demangle.specs.Name.{IsRead, IsRefused}
 use Rattle.cpp_demangle.specs.Reading.{reading, whole, whole_at}

@@ -1,8 +1,7 @@
 -- Laws on what the parts of a name are, by what its printing told.
-use Rattle.std.proofs.Common.{◌≡◌, ◌∙◌, ℕ, Bool, true, false, List, [], ◌∷◌, ◌++◌, Some, None, refl, sym, ap, subst, inl, inr}
-use Rattle.std.proofs.Common.{Option, Result, Ok, Err, arith}
+use Rattle.std.proofs.Common.{◌≡◌, ◌∙◌, ℕ, Bool, true, false, List, [], ◌++◌, Some, None, refl, sym, ap, subst, inl, inr}
+use Rattle.std.proofs.Common.{Option, Ok, Err, arith}
 use Rattle.std.proofs.lemmas.List.{append-nil}
-use Rattle.demangle_text.specs.declared.error.Error.{Error}
 use Rattle.demangle_printing.specs.Laws.{AreClosed, told}
 use Rattle.demangle_printing.specs.Outcome.{Options, printed, text_of}
 use Rattle.demangle_printing.specs.State.{Answer, Event, Fault, yes, no}
@@ -15,7 +14,7 @@ use Rattle.demangle_context.specs.declared.error.DemangleError.TheVariants as pr
 use Rattle.demangle_parts_text.specs.Divided.{IsCutOf, IsWhole, shown}
 use Rattle.demangle_parts_text.specs.Items.{Items, items, text_in}
 use Rattle.demangle_parts_text.specs.Laws.{JoinsCut, KeepsText, in_scope}
-use Rattle.demangle_parts_text.specs.Split.{Cut, cut_if}
+use Rattle.demangle_parts_text.specs.Split.{cut_if}
 use Rattle.demangle_parts_text.specs.declared.divided.Divided as text
 use Rattle.cpp_demangle.specs.Contents.{Contents, telling_of}
 use Rattle.cpp_demangle.specs.Telling.{Ends, Stops, Telling, Tells, TellsAll}

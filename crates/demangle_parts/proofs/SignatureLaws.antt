@@ -1,5 +1,5 @@
 -- Laws on what a name's tree says of its parts.
-use Rattle.std.proofs.Common.{◌≡◌, ◌∙◌, ℕ, Bool, true, false, not, List, [], ◌∷◌, length, drop, map, get_or, Some, None}
+use Rattle.std.proofs.Common.{◌≡◌, ◌∙◌, ℕ, Bool, true, false, not, List, [], ◌∷◌, length, map, get_or, Some, None}
 use Rattle.std.proofs.Common.{Option, is_some, Vec, refl, sym, ap, arith}
 use Rattle.std.specs.declared.alloc.Global.{Global}
 use Rattle.demangle_core.specs.Core.{Core, Tag, end, node, trees}
@@ -13,8 +13,8 @@ use Rattle.demangle_leaf_nodes.specs.declared.leaves.BuiltinType.TheVariants as 
 use Rattle.demangle_leaf_nodes.specs.declared.leaves.CloneSuffix.{CloneSuffix}
 use Rattle.demangle_leaf_nodes.specs.declared.leaves.TypeHandle.{TypeHandle}
 use Rattle.demangle_leaf_nodes.specs.declared.leaves.TypeHandle.TheVariants as of_handle
-use Rattle.demangle_leaf_nodes.specs.TreeLeaves.{parts_of_type_handle, tag_of_clone_suffix, tag_of_type_handle}
-use Rattle.demangle_leaf_nodes.specs.TreeLeaves.{parts_of_clone_suffix, tree_of_builtin_type, tree_of_type_handle}
+use Rattle.demangle_leaf_nodes.specs.TreeLeaves.{parts_of_type_handle, tag_of_type_handle}
+use Rattle.demangle_leaf_nodes.specs.TreeLeaves.{tree_of_builtin_type, tree_of_type_handle}
 use Rattle.demangle_nodes.proofs.Parts.{encoding_data, encoding_function, mangled_name_encoding}
 use Rattle.demangle_nodes.specs.declared.nodes.Encoding.{Encoding}
 use Rattle.demangle_nodes.specs.declared.nodes.Encoding.TheVariants as encoding

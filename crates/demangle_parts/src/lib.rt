@@ -2,14 +2,10 @@
 //! of names by scope.
 #![tactic(auto)]
 
-#[cfg(test)]
-mod cases;
 mod index;
 mod kind;
 mod parts;
 mod signature;
-#[cfg(test)]
-mod tests;
 
 pub use demangle_groups::{Group, Index};
 pub use index::index_of;
