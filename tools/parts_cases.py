@@ -4,8 +4,8 @@
     cd crates/demangle_parts_tests; rt fmt
 
 A line of FILE is a JSON object: `name`, one Latin-1 character a byte, and `parts`: kind, scope or null, base, what is
-behind it, and arity or null; or ["Read", error] or ["Print", error], where the name isn't read or its tree isn't printed.
-In the table the parts are one text, with `|` between them and `-` for null.
+behind it, and arity or null; or ["Read", error] or ["Print", error], where the name isn't read or its tree isn't
+printed. In the table the parts are one text, with `|` between them and `-` for null.
 """
 import json
 import sys

@@ -1,6 +1,7 @@
 -- Laws on what a builder keeps, and on the index that is made of it.
 use Rattle.std.proofs.Common.{◌≡◌, ◌∙◌, ℕ, ◌+◌, Bool, true, false, cond, ◌||◌, List, [], ◌∷◌, ◌++◌, length, map}
-use Rattle.std.proofs.Common.{Option, Some, None, Result, Ok, Err, OnOk, OnErr, refl, sym, ap, subst, arith, String, Vec, string_bytes, is_some}
+use Rattle.std.proofs.Common.{Option, Some, None, Result, Ok, Err, OnOk, OnErr, refl, sym, ap, subst, arith}
+use Rattle.std.proofs.Common.{String, Vec, string_bytes, is_some}
 use Rattle.std.proofs.lemmas.List.{append-nil}
 use Rattle.std.proofs.lemmas.List.Elements.{All-append, All-cons, All-map, All-nil, All-weaker}
 use Rattle.std.proofs.lemmas.List.Folds.{list_any-append}
@@ -31,7 +32,8 @@ positions_from-push : {A : Type 0} (n : ℕ) (test : A → Bool) (xs : List A) (
     → positions_from n test (xs ++ x ∷ []) ≡ positions_from n test xs ++ cond (test x) ((n + length xs) ∷ []) []
 positions_from-push n test [] x =
     let same : n ≡ n + 0 = omega arith in
-    elim (test x) as (λ b. cond b (n ∷ []) [] ≡ cond b ((n + 0) ∷ []) []) [ true ↦ ap (λ k. k ∷ []) same | false ↦ refl ]
+    elim (test x) as (λ b. cond b (n ∷ []) [] ≡ cond b ((n + 0) ∷ []) [])
+    [ true ↦ ap (λ k. k ∷ []) same | false ↦ refl ]
 positions_from-push n test (y ∷ ys) x =
     let rest = positions_from-push (n + 1) test ys x in
     let same : (n + 1) + length ys ≡ n + length (y ∷ ys) = omega arith in

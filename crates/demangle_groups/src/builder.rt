@@ -85,8 +85,8 @@ impl IndexBuilder {
         }
     }
 
-    /// The entry at this position, behind those so far, is in this scope, or in none. Where there is no memory the index
-    /// is as before.
+    /// The entry at this position, behind those so far, is in this scope, or in none. Where there is no memory the
+    /// index is as before.
     pub fn add(&mut self, scope: Option<&str>, position: usize) -> Result<(), AllocError>
         ensures added { (es : List Entry) → length es ≡ position → Keeps self.old es
             → OnOk result (Keeps self.new (es ++ Some (option_map (λ x. x.now) scope.entry) ∷ [])) }

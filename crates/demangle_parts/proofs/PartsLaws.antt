@@ -1,6 +1,6 @@
 -- Laws on what the parts of a name are, by what its printing told.
-use Rattle.std.proofs.Common.{◌≡◌, ◌∙◌, ℕ, Bool, true, false, List, [], ◌++◌, Some, None, refl, sym, ap, subst, inl, inr}
-use Rattle.std.proofs.Common.{Option, Ok, Err, arith}
+use Rattle.std.proofs.Common.{◌≡◌, ◌∙◌, ℕ, Bool, true, false, List, [], ◌++◌, Some, None, refl, sym, ap, subst}
+use Rattle.std.proofs.Common.{inl, inr, Option, Ok, Err, arith}
 use Rattle.std.proofs.lemmas.List.{append-nil}
 use Rattle.demangle_printing.specs.Laws.{AreClosed, told}
 use Rattle.demangle_printing.specs.Outcome.{Options, printed, text_of}

@@ -1,4 +1,5 @@
-use Rattle.demangle_groups.proofs.BuilderLaws.{keeps-within, keeps-without, on-err, on-err-weaker, on-ok, still-within, still-without}
+use Rattle.demangle_groups.proofs.BuilderLaws.{keeps-within, keeps-without, on-err, on-err-weaker, on-ok}
+use Rattle.demangle_groups.proofs.BuilderLaws.{still-within, still-without}
 use Rattle.demangle_groups.proofs.builder.IndexBuilder.add.Goals as goal
 
 pub returns-in_ok-push-in-None-clause-added : goal.returns-in_ok-push-in-None-clause-added
