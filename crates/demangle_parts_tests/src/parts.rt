@@ -1,6 +1,5 @@
 //! The parts of names.
 
-use crate::cases::CASES;
 use cpp_demangle::{BorrowedSymbol, DemangleOptions, Symbol};
 use demangle_parts::parts_of;
 use std::alloc::{AllocError, Global};
@@ -23,15 +22,6 @@ fn shown(alloc: Global, name: &[u8]) -> Result<String, AllocError> {
         None => format!(in alloc; "{kind:?}|{scope}|{base}|{after}|-"),
         Some(arity) => format!(in alloc; "{kind:?}|{scope}|{base}|{after}|{arity}"),
     }
-}
-
-#[test]
-fn names_have_their_parts(rt: HostRuntime) -> Result<(), AllocError> {
-    for (name, parts) in &CASES {
-        let found = shown(rt.alloc(), *name)?;
-        assert_eq!(rt; found.as_str(), *parts, "at {name:?}");
-    }
-    Ok(())
 }
 
 /// Names of each kind, and some whose parts are easily taken for others.
