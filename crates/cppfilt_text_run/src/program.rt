@@ -33,7 +33,8 @@ impl Termination for Ended {
 
 /// The whole program: `run` over the words of the process and these ends. Words that are no text are wrong words.
 ///
-/// No contract tells what the words of a process are, so what is said is said for some words, or for none that are text.
+/// No contract tells what the words of a process are, so what is said is said for some words, or for none that are
+/// text.
 pub fn start<R: Source, W: Sink, E: Sink>(
     rt: &(impl Env + AllocGlobal),
     input: &mut R,
