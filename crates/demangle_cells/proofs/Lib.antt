@@ -1,0 +1,7 @@
+pub mod Lists
+pub mod Trees
+pub mod Grows
+pub mod Waits
+pub mod Components
+pub mod Blocks
+pub mod Exists

@@ -1,0 +1,12 @@
+use Rattle.std.proofs.Common.{◌≡◌, ◌+◌, length}
+use Rattle.demangle_cells.specs.Fixed.{first_cell}
+use Rattle.demangle_cells.specs.Behind.{all_known}
+use Rattle.demangle_cells.proofs.arena.Arena.knows_all.Given as goal
+
+abbrev pub invariant-loop-rest : goal.invariant-loop-rest
+invariant-loop-rest l =
+    all_known (first_cell + length l.self.cells.items) l.rest
+    ≡ all_known (first_cell + length l.self.cells.items) l.fn.ids
+
+abbrev pub decreases-loop-rest : goal.decreases-loop-rest
+decreases-loop-rest l = length l.rest

@@ -1,0 +1,6 @@
+use Rattle.std.proofs.Common.{arith}
+use Rattle.demangle_cells.proofs.Blocks.{builtin_is}
+use Rattle.demangle_cells.proofs.constants.builtin_id.Goals as goal
+
+pub returns : goal.returns
+returns c = λ F v h. builtin_is F v c.args.word (omega (arith, c.ranges.word.fits)) h

@@ -1,0 +1,366 @@
+//! The arena: cells, and what of a name is kept beside them.
+
+ghost use Rattle.std.specs.Prelude.{◌≡◌, ◌≤◌, ◌+◌, ◌^◌, ◌<◌, [], ◌∷◌, true, false, length, take, drop, ℕ, IfOk, IfErr};
+ghost use Rattle.std.specs.Prelude.{OnErr, OnOk, IfSome};
+ghost use Rattle.demangle_cells.specs.Fixed.{first_cell, first_reference};
+ghost use Rattle.demangle_cells.specs.Behind.{all_behind};
+ghost use Rattle.demangle_cells.specs.Entries.{ids_of};
+
+use crate::cell::{Cell, ListOf};
+use crate::constant_cells::constant_cell;
+use crate::entry::{Entry, Mark};
+use crate::text::Part;
+use demangle_text::{Error, Result};
+use std::alloc::Global;
+
+/// The index of the first cell; those below are constant trees.
+pub const FIRST_CELL: u32 = 2048;
+
+/// The index of the reference to the first numbered component.
+pub const FIRST_REFERENCE: u32 = 1 << 30;
+
+/// The index of the reference to the first of the other components.
+pub const FIRST_OTHER: u32 = 1 << 31;
+
+/// The trees of a name: cells that never change, and lists of indexes that they name; the components so far; and the
+/// indexes that wait to become a list.
+#[derive(Drop)]
+pub struct Arena {
+    cells: Vec<Cell>,
+    list: Vec<u32>,
+    entries: Vec<Entry>,
+    numbered: Vec<u32>,
+    others: Vec<u32>,
+    waiting: Vec<u32>,
+    ghost few: { first_cell + length cells.items ≤ first_reference },
+    ghost short: { length list.items < 2 ^ 32 },
+    ghost behind: { all_behind first_cell list.items cells.items ≡ true },
+    ghost those_numbered: { numbered.items ≡ ids_of true entries.items },
+    ghost the_others: { others.items ≡ ids_of false entries.items },
+}
+
+impl Arena {
+    ghost use Rattle.demangle_text.specs.declared.error.Error.TheVariants.{OutOfMemory};
+    ghost use Rattle.demangle_core.specs.Core.{Core, N, U};
+    ghost use Rattle.demangle_core.specs.Table.{added, entry_at, size};
+    ghost use Rattle.demangle_cells.specs.Behind.{is_known, is_behind, all_known};
+    ghost use Rattle.demangle_cells.specs.Reads.{Gathers};
+    ghost use Rattle.std.specs.Prelude.{◌++◌, nat_lt, MatchOption, option_map};
+    ghost use Rattle.demangle_grammar.specs.Tree.{reference};
+    ghost use Rattle.demangle_cells.specs.View.{view, Holds, table, Grown, IsMark, FitsMark, IsCut, KeepsTrees};
+    ghost use Rattle.demangle_cells.specs.View.{which_of};
+    ghost use Rattle.demangle_cells.specs.Cells.{tree, row, list_tree, span};
+
+    /// An arena without cells. It takes no memory.
+    #[tactic(auto, unfolding(crate::specs::View::view))]
+    pub fn new(alloc: Global) -> Arena
+        ensures cells { (view result).cells ≡ [] }
+        ensures entries { (view result).entries ≡ [] }
+        ensures waiting { (view result).waiting ≡ [] }
+    {
+        Arena {
+            cells: Vec::new(alloc),
+            list: Vec::new(alloc),
+            entries: Vec::new(alloc),
+            numbered: Vec::new(alloc),
+            others: Vec::new(alloc),
+            waiting: Vec::new(alloc),
+        }
+    }
+
+    /// Without cells, components and waiting indexes, for another name; the room is kept.
+    #[tactic(auto, unfolding(crate::specs::View::view))]
+    pub fn clear(&mut self)
+        ensures cells { (view self.new).cells ≡ [] }
+        ensures entries { (view self.new).entries ≡ [] }
+        ensures waiting { (view self.new).waiting ≡ [] }
+    {
+        self.cells.clear();
+        self.list.clear();
+        self.entries.clear();
+        self.numbered.clear();
+        self.others.clear();
+        self.waiting.clear();
+    }
+
+    /// The index of the next cell.
+    #[tactic(auto, unfolding(crate::specs::View::view))]
+    fn next(&self) -> u32
+        ensures { result ≡ first_cell + length self.now.cells.items }
+    {
+        FIRST_CELL + self.cells.len() as u32
+    }
+
+    /// Whether it is the index of a cell or of a constant tree.
+    #[tactic(auto, unfolding(crate::specs::View::view))]
+    fn knows(&self, id: u32) -> bool
+        ensures { result ≡ is_known (first_cell + length self.now.cells.items) id }
+    {
+        id < self.next() || id >= FIRST_REFERENCE
+    }
+
+    /// Whether the parts of a cell are known.
+    #[tactic(auto, unfolding(crate::specs::View::view))]
+    fn has_parts(&self, cell: Cell) -> bool
+        ensures { result ≡ true → is_behind (first_cell + length self.now.cells.items) self.now.list.items cell ≡ true }
+    {
+        match cell {
+            Cell::One(_, a) => self.knows(a),
+            Cell::Two(_, a, b) => self.knows(a) && self.knows(b),
+            Cell::Three(_, a, b, c) => self.knows(a) && self.knows(b) && self.knows(c),
+            Cell::Many(_, _, _) | Cell::Arguments(_, _, _) => false,
+            _ => true,
+        }
+    }
+
+    /// One cell more, and its index. Where the parts are no known indexes, or there are 2^30 cells, it is
+    /// `OutOfMemory`.
+    #[tactic(auto, using(crate::proofs::Grows::pushes, crate::proofs::Trees::behind_last), unfolding(crate::specs::View::view))]
+    pub fn push(&mut self, cell: Cell) -> Result<u32>
+        ensures grown { Grown (view self.old) (view self.new) }
+        ensures table { (F : ℕ → Core) → table F (view self.new) ≡ table F (view self.old) }
+        ensures made { IfOk result (λ i. (F : ℕ → Core) → Holds F (view self.new)
+            → F i ≡ tree F (view self.new).list cell) }
+        ensures refused { IfErr result (λ e. e ≡ OutOfMemory) }
+    {
+        if self.next() >= FIRST_REFERENCE || !self.has_parts(cell) {
+            return Err(Error::OutOfMemory);
+        }
+        let id = self.next();
+        self.cells.push(cell)?;
+        Ok(id)
+    }
+
+    /// One component more, and the index of the reference to it.
+    #[tactic(auto, unfolding(crate::specs::View::view))]
+    pub fn add(&mut self, numbered: bool, id: u32) -> Result<u32>
+        ensures grown { Grown (view self.old) (view self.new) }
+        ensures reference { IfOk result (λ r. (F : ℕ → Core) → Holds F (view self.new)
+            → F r ≡ reference (which_of numbered) (size (which_of numbered) (table F (view self.old)))) }
+        ensures added { OnOk result ((F : ℕ → Core)
+            → table F (view self.new) ≡ added (which_of numbered) (F id) (table F (view self.old))) }
+        ensures refused { IfErr result (λ e. e ≡ OutOfMemory) }
+    {
+        if numbered {
+            self.add_numbered(id)
+        } else {
+            self.add_other(id)
+        }
+    }
+
+    /// A numbered component more.
+    #[tactic(auto, using(crate::proofs::Grows::pushes, crate::proofs::Components::parts), unfolding(crate::specs::View::view))]
+    fn add_numbered(&mut self, id: u32) -> Result<u32>
+        ensures grown { Grown (view self.old) (view self.new) }
+        ensures reference { IfOk result (λ r. (F : ℕ → Core) → Holds F (view self.new)
+            → F r ≡ reference N (size N (table F (view self.old)))) }
+        ensures added { OnOk result ((F : ℕ → Core)
+            → table F (view self.new) ≡ added N (F id) (table F (view self.old))) }
+        ensures refused { IfErr result (λ e. e ≡ OutOfMemory) }
+    {
+        let number = self.numbered.len();
+        if number >= FIRST_REFERENCE as usize {
+            return Err(Error::OutOfMemory);
+        }
+        self.entries.push(Entry { numbered: true, id })?;
+        match self.numbered.push(id) {
+            Ok(()) => Ok(FIRST_REFERENCE + number as u32),
+            Err(_) => {
+                self.entries.pop();
+                Err(Error::OutOfMemory)
+            }
+        }
+    }
+
+    /// Another component more.
+    #[tactic(auto, using(crate::proofs::Grows::pushes, crate::proofs::Components::parts), unfolding(crate::specs::View::view))]
+    fn add_other(&mut self, id: u32) -> Result<u32>
+        ensures grown { Grown (view self.old) (view self.new) }
+        ensures reference { IfOk result (λ r. (F : ℕ → Core) → Holds F (view self.new)
+            → F r ≡ reference U (size U (table F (view self.old)))) }
+        ensures added { OnOk result ((F : ℕ → Core)
+            → table F (view self.new) ≡ added U (F id) (table F (view self.old))) }
+        ensures refused { IfErr result (λ e. e ≡ OutOfMemory) }
+    {
+        let number = self.others.len();
+        if number >= FIRST_REFERENCE as usize {
+            return Err(Error::OutOfMemory);
+        }
+        self.entries.push(Entry {
+            numbered: false,
+            id,
+        })?;
+        match self.others.push(id) {
+            Ok(()) => Ok(FIRST_OTHER + number as u32),
+            Err(_) => {
+                self.entries.pop();
+                Err(Error::OutOfMemory)
+            }
+        }
+    }
+
+    /// How many components there are.
+    #[tactic(auto, unfolding(crate::specs::View::view))]
+    pub fn mark(&self) -> Mark
+        ensures { IsMark (view self.now) result }
+    {
+        Mark {
+            entries: self.entries.len(),
+            numbered: self.numbered.len(),
+            others: self.others.len(),
+        }
+    }
+
+    /// Cuts the components back to as many as there were.
+    #[tactic(auto, using(crate::proofs::Components::ids_taken), unfolding(crate::specs::View::view))]
+    pub fn cut_back(&mut self, mark: Mark)
+        requires { FitsMark (view self.old) mark }
+        ensures { IsCut mark (view self.old) (view self.new) }
+    {
+        self.entries.truncate(mark.entries);
+        self.numbered.truncate(mark.numbered);
+        self.others.truncate(mark.others);
+    }
+
+    /// Whether there is a numbered component of this number.
+    #[tactic(auto, using(crate::proofs::Components::has_of_size), unfolding(crate::specs::View::view))]
+    pub fn has_numbered(&self, number: usize) -> bool
+        ensures { (F : ℕ → Core) → result ≡ nat_lt number (size N (table F (view self.now))) }
+    {
+        number < self.numbered.len()
+    }
+
+    /// How many indexes wait.
+    #[tactic(auto, unfolding(crate::specs::View::view))]
+    pub fn waiting(&self) -> usize
+        ensures { result ≡ length (view self.now).waiting }
+    {
+        self.waiting.len()
+    }
+
+    /// One index more that waits to become a list.
+    #[tactic(auto, using(crate::proofs::Grows::all_same), unfolding(crate::specs::View::view))]
+    pub fn wait(&mut self, id: u32) -> Result<()>
+        ensures kept { KeepsTrees (view self.old) (view self.new) }
+        ensures waits { OnOk result ((view self.new).waiting ≡ (view self.old).waiting ++ id ∷ []) }
+        ensures same { OnErr result ((view self.new).waiting ≡ (view self.old).waiting) }
+        ensures refused { IfErr result (λ e. e ≡ OutOfMemory) }
+    {
+        self.waiting.push(id)?;
+        Ok(())
+    }
+
+    /// The cell of an index: none exactly where there is no such cell and it is no constant's.
+    #[tactic(auto, using(crate::proofs::Blocks::cells), unfolding(crate::specs::View::view))]
+    pub fn cell(&self, id: u32) -> Option<Cell>
+        ensures { MatchOption result (is_known (first_cell + length (view self.now).cells) id ≡ false)
+            (λ c. (F : ℕ → Core) → Holds F (view self.now) → F id ≡ tree F (view self.now).list c) }
+    {
+        if id < FIRST_CELL {
+            return Some(constant_cell(id));
+        }
+        if id >= FIRST_OTHER {
+            return Some(Cell::Other(id - FIRST_OTHER));
+        }
+        if id >= FIRST_REFERENCE {
+            return Some(Cell::Reference(id - FIRST_REFERENCE));
+        }
+        match self.cells.get((id - FIRST_CELL) as usize) {
+            Some(cell) => Some(*cell),
+            None => None,
+        }
+    }
+
+    /// So many indexes of the list, from a place on.
+    #[tactic(auto, unfolding(crate::specs::View::view))]
+    pub fn indexes(&self, start: u32, count: u32) -> &[u32]
+        ensures { result.now ≡ span (view self.now).list start count }
+    {
+        let rest = match self.list.get(start as usize..) {
+            Some(rest) => rest,
+            None => return &[],
+        };
+        match rest.get(..count as usize) {
+            Some(front) => front,
+            None => rest,
+        }
+    }
+
+    /// The tree of a numbered component; none exactly where there is none.
+    #[tactic(auto, using(crate::proofs::Components::by_number), unfolding(crate::specs::View::view))]
+    pub fn numbered(&self, number: u32) -> Option<u32>
+        ensures { (F : ℕ → Core) → option_map F result ≡ entry_at N number (table F (view self.now)) }
+    {
+        match self.numbered.get(number as usize) {
+            Some(id) => Some(*id),
+            None => None,
+        }
+    }
+
+    /// The tree of another component; none exactly where there is none.
+    #[tactic(auto, using(crate::proofs::Components::by_number), unfolding(crate::specs::View::view))]
+    pub fn other(&self, number: u32) -> Option<u32>
+        ensures { (F : ℕ → Core) → option_map F result ≡ entry_at U number (table F (view self.now)) }
+    {
+        match self.others.get(number as usize) {
+            Some(id) => Some(*id),
+            None => None,
+        }
+    }
+
+    /// Whether all are known.
+    fn knows_all(&self, ids: &[u32]) -> bool
+        ensures { result ≡ true → all_known (first_cell + length self.now.cells.items) ids.now ≡ true }
+    {
+        let mut rest = ids;
+        while let [id, next @ ..] = rest {
+            if !self.knows(*id) {
+                return false;
+            }
+            rest = next;
+        }
+        true
+    }
+
+    /// A cell of the indexes that wait, from a place on.
+    #[tactic(auto, using(crate::proofs::Trees::behind_last, crate::proofs::Waits::lists), unfolding(crate::specs::View::view))]
+    fn listed(&mut self, from: usize, list: ListOf) -> Result<u32>
+        requires { from ≤ length (view self.old).waiting }
+        ensures kept { KeepsTrees (view self.old) (view self.new) }
+        ensures waiting { (view self.new).waiting ≡ (view self.old).waiting }
+        ensures made { IfOk result (λ i. (F : ℕ → Core) → Holds F (view self.new)
+            → F i ≡ list_tree list (row F (drop from (view self.old).waiting))) }
+        ensures refused { IfErr result (λ e. e ≡ OutOfMemory) }
+    {
+        let start = self.list.len();
+        let count = self.waiting.len() - from;
+        if self.next() >= FIRST_REFERENCE || start + count >= 1 << 32 {
+            return Err(Error::OutOfMemory);
+        }
+        if !self.knows_all(&self.waiting[from..]) {
+            return Err(Error::OutOfMemory);
+        }
+        self.list.extend_from_slice(&self.waiting[from..])?;
+        let id = self.next();
+        let cell = list.cell(start as u32, count as u32);
+        self.cells.push(cell)?;
+        Ok(id)
+    }
+
+    /// The list of the indexes that wait, from a place on, where it was read; they wait no more.
+    #[tactic(auto, unfolding(crate::specs::View::view))]
+    pub fn gathered(&mut self, from: usize, list: ListOf, answer: Result<u32>) -> Result<Part>
+        requires { from ≤ length (view self.old).waiting }
+        ensures kept { KeepsTrees (view self.old) (view self.new) }
+        ensures waiting { (view self.new).waiting ≡ take from (view self.old).waiting }
+        ensures made { Gathers answer result (λ i. (F : ℕ → Core) → Holds F (view self.new)
+            → F i ≡ list_tree list (row F (drop from (view self.old).waiting))) }
+    {
+        let made = match answer {
+            Ok(end) => self.listed(from, list).map(|id| Part { id, end }),
+            Err(error) => Err(error),
+        };
+        self.waiting.truncate(from);
+        made
+    }
+}
