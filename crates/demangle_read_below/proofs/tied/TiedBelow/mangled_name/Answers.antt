@@ -1,0 +1,4 @@
+use Rattle.demangle_read_below.proofs.tied.TiedBelow.mangled_name.Goals as goal
+
+pub returns-clause-reads : goal.returns-clause-reads
+returns-clause-reads g c = c.requires.can.5.reads _ _ _ _ _ _ c.call_once.ensures
