@@ -1,0 +1,11 @@
+pub mod Places
+pub mod Indexes
+pub mod SourceNames
+pub mod Added
+pub mod References
+pub mod ResourceNames
+pub mod Turns
+pub mod DottedNumbers
+pub mod RowLists
+pub mod Suffixes
+pub mod ShortNumbers
