@@ -1,0 +1,4 @@
+pub mod RowsRead
+pub mod RowLists
+pub mod Waits
+pub mod Starts
