@@ -1,19 +1,21 @@
 -- A list of rows, step by step.
-use Rattle.std.specs.Prelude.{Result, Ok, Err, Option, Some, None}
-use Rattle.std.proofs.Common.{inl, inr, ◌≡◌, ◌⊎◌, ℕ, zero, suc, ◌<◌, Bool, true, false, List, [], ◌∷◌, ◌++◌, length, map}
-use Rattle.std.proofs.Common.{refl, ap, ◌∙◌, sym, subst, arith, append_assoc, append-nil}
+use Rattle.std.specs.Prelude.{◌≤◌, codes, Result, Ok, Err, Some, None}
+use Rattle.std.proofs.Common.{inl, inr, ◌≡◌, ℕ, zero, suc, ◌<◌, Bool, true, false, List, [], ◌∷◌, ◌++◌, length, map}
+use Rattle.std.proofs.Common.{refl, ap, ◌∙◌, sym, subst, arith, append_assoc}
 use Rattle.demangle_core.specs.Core.{Core, Tag, node, end}
 use Rattle.demangle_core.specs.Table.{Table}
-use Rattle.demangle_text.specs.Kind.{Kind, kind, ends}
+use Rattle.demangle_text.specs.Kind.{Kind, Unread, Deep, Other, kind, ends}
 use Rattle.demangle_text.specs.Spot.{Spot}
 use Rattle.demangle_text.specs.declared.error.Error.{Error}
-use Rattle.demangle_text.specs.declared.error.Error.TheVariants.{OutOfMemory}
 use Rattle.demangle_grammar.specs.Rule.{Row}
 use Rattle.demangle_grammar.specs.Rows.{rule}
-use Rattle.demangle_grammar.specs.First.{takes_in, takes_row}
+use Rattle.demangle_grammar.specs.First.{takes_in, takes_row, first_in, idle_in}
+use Rattle.demangle_grammar.specs.Items.{these}
+use Rattle.demangle_grammar.specs.Reading.{next_is}
 use Rattle.demangle_grammar.specs.Code.{joined, Go, Here, here, Reply, Found, Refused, Yes, No, and_then, one_row, many}
 use Rattle.demangle_grammar.specs.Code.{all_of, rows_of, rows_at, all_at, some_at, cread}
 use Rattle.demangle_grammar.proofs.CodeLaws.{byte_taken}
+use Rattle.demangle_forms.proofs.Missed.{IsMissed, apart_missed, one_or_end}
 use Rattle.demangle_cells.specs.Cells.{row}
 use Rattle.demangle_cells.specs.View.{View, Holds, Grown, Waited, KeepsTrees, IsMark, IsCut, table, since}
 use Rattle.demangle_cells.specs.Reads.{Answer, Answers, AnswersList, ListsPart, ReadsRow, spot_at}
@@ -22,8 +24,8 @@ use Rattle.demangle_cells.specs.declared.text.Part as part
 use Rattle.demangle_cells.specs.declared.entry.Mark as mark
 use Rattle.demangle_cells.proofs.Lists.{map_last}
 use Rattle.demangle_cells.proofs.Grows.{cut_holds}
-use Rattle.demangle_cells.proofs.Waits.{since_self, since_more, since_same, waited_on, waited_grown, waited_kept}
-use Rattle.demangle_cells.proofs.Waits.{waited_cut, gathered_table}
+use Rattle.demangle_cells.proofs.Waits.{since_more, since_same, waited_on, waited_grown}
+use Rattle.demangle_cells.proofs.Waits.{gathered_table}
 use Rattle.demangle_read_types.specs.Lists.{list_at, Reaches, ReadsRest, AnswersRest, Lengthens}
 use Rattle.demangle_read_types.proofs.Waits.{waited_cut_table, waited_both, waited_first, since_then}
 
@@ -91,10 +93,20 @@ list_none f c r q s k h = rw h refl
 
 -- ---- the steps of a loop that reads the rest of a list
 module _ (f : ℕ) (r : Row) (c : Bool) (text : Text) (at : ℕ) (a : View) where
-  pub reaches_first : Reaches r f c text at at a a
-  reaches_first F h is =
-      ap (λ l. list_at f r c F l (here (spot_at text at) (table F a)))
-      (ap (λ l. is ++ l) (since_self a) ∙ append-nil is)
+  -- no more of them, where none begins with the next byte
+  pub rest_skips : (stop : ℕ) (b : View) → Reaches r f c text at stop a b
+      → ((e : Table) → IsMissed (cread f r c (here (spot_at text stop) e) [])) → ReadsRest r f c text at (Ok stop) a b
+  rest_skips stop b reached missed F h is =
+      by (cread f r c (here (spot_at text stop) (table F b)) []) refl (missed (table F b))
+    where
+      by : (x : Reply) → cread f r c (here (spot_at text stop) (table F b)) [] ≡ x → IsMissed x
+          → AnswersRest F text (Ok stop) a b is (list_at f r c F is (here (spot_at text at) (table F a)))
+      by (Refused (Unread u)) e m =
+          sym (reached F h is) ∙ stopped F f r c (here (spot_at text stop) (table F b)) (is ++ since a b) (Unread u)
+          e refl
+      by (Refused Deep) e m = absurd m
+      by (Refused Other) e m = absurd m
+      by (Found t q) e m = absurd m
 
   module _ (stop : ℕ) (b m d : View) (n : mark.Mark) (w : Waited a b) (g : Grown b m)
       (reached : Reaches r f c text at stop a b) where
@@ -106,7 +118,8 @@ module _ (f : ℕ) (r : Row) (c : Bool) (text : Text) (at : ℕ) (a : View) wher
         let keeps = l.2 in
         let waits = l.3 in
         let t : table F d ≡ table F m = gathered_table F m d keeps in
-        let e : cread f r c (here (spot_at text stop) (table F b)) [] ≡ Found (F x.id) (here (spot_at text next) (table F d)) =
+        let e : cread f r c (here (spot_at text stop) (table F b)) [] ≡ Found (F x.id)
+        (here (spot_at text next) (table F d)) =
         reads F (keeps.holds F k) ∙ (ap (λ z. Found (F x.id) (here (spot_at text z) (table F m))) l.0
         ∙ ap (λ z. Found (F x.id) (here (spot_at text next) z)) (sym t)) in
         ap (λ z. list_at f r c F z (here (spot_at text next) (table F d)))
@@ -120,15 +133,12 @@ module _ (f : ℕ) (r : Row) (c : Bool) (text : Text) (at : ℕ) (a : View) wher
     waited_next (Ok x) next l = waited_on a b m d x.id w g l.2 l.3
 
     -- no more of them
-    pub waited_last : (answer : Answer) → Lengthens answer stop n (Ok None) m d → Waited a d
-    waited_last (Ok x) l = absurd cc
-    waited_last (Err e) l = subst (λ v. Waited a v) (sym l.1) (waited_grown a b m w g)
-
     pub rest_ends : (answer : Answer) → ReadsRow r f c text stop answer b m → Lengthens answer stop n (Ok None) m d
         → ReadsRest r f c text at (Ok stop) a d
     rest_ends (Ok x) reads l F h is = absurd cc
     rest_ends (Err e) reads l F h is =
-        subst (λ v. AnswersRest F text (Ok stop) a v is (list_at f r c F is (here (spot_at text at) (table F a)))) (sym l.1)
+        subst (λ v. AnswersRest F text (Ok stop) a v is (list_at f r c F is (here (spot_at text at) (table F a))))
+        (sym l.1)
         (by (reads F k))
       where
         k : Holds F m
@@ -140,15 +150,12 @@ module _ (f : ℕ) (r : Row) (c : Bool) (text : Text) (at : ℕ) (a : View) wher
         by (inr x) =
             sym (reached F (g.holds F k) is)
             ∙ (stopped F f r c (here (spot_at text stop) (table F b)) (is ++ since a b) (kind e) x.0 l.0
-            ∙ (ap (λ z. Yes (here (spot_at text stop) z) (node Tag.Several (row F (is ++ since a b)) end ∷ [])) (sym x.1)
+            ∙ (ap (λ z. Yes (here (spot_at text stop) z) (node Tag.Several (row F (is ++ since a b)) end ∷ []))
+            (sym x.1)
             ∙ ap (λ z. Yes (here (spot_at text stop) (table F m)) (node Tag.Several (row F (is ++ z)) end ∷ []))
             (sym (since_same a b m g))))
 
     -- what ends the whole reading
-    pub waited_failed : (answer : Answer) (e : Error) → IsMark a n → Lengthens answer stop n (Err e) m d → Waited a d
-    waited_failed (Ok x) e i l = waited_kept a m d (waited_grown a b m w g) l.1 l.2
-    waited_failed (Err k) e i l = waited_cut a m d n i (waited_grown a b m w g) l.2
-
     pub rest_fails : (answer : Answer) (e : Error) → IsMark a n → ReadsRow r f c text stop answer b m
         → Lengthens answer stop n (Err e) m d → ReadsRest r f c text at (Err e) a d
     rest_fails (Ok x) e i reads l F h is = inl l.0
@@ -197,7 +204,8 @@ module _ (f : ℕ) (r q : Row) (c : Bool) (text : Text) (at : ℕ) (x : part.Par
       held : Holds F d
       held = cut_holds F d v n u h
 
-      by : AnswersRest F text (Err o) m d (x.id ∷ []) (list_at f q c F (x.id ∷ []) (here (spot_at text x.end) (table F m)))
+      by : AnswersRest F text (Err o) m d (x.id ∷ [])
+          (list_at f q c F (x.id ∷ []) (here (spot_at text x.end) (table F m)))
           → AnswersList F text (Err o) a v (some_at (cread f) c r q (here (spot_at text at) (table F a)))
       by (inl y) = inl y
       by (inr y) = inr (sym (begun F held) ∙ y.0, waited_cut_table F a d v n i some_waited u)
@@ -227,3 +235,16 @@ none_fails f r q c text at a b e reads F h = by (reads F h)
         → AnswersList F text (Err e) a b (some_at (cread f) c r q (here (spot_at text at) (table F a)))
     by (inl o) = inl o
     by (inr x) = inr (list_none f c r q (here (spot_at text at) (table F a)) (kind e) x.0, x.1)
+
+-- ---- bytes with which none of these rows begins
+pub type_missed : (f : ℕ) (c : Bool) (p : Spot) (e : Table) → 10 ≤ f → next_is (these "E") p.left ≡ true
+    → IsMissed (cread f Row.type_handle c (here p e) [])
+unfolding rule takes_in first_in idle_in
+type_missed f c p e l n =
+    apart_missed Row.type_handle 10 (codes "E") f c (here p e) refl l (one_or_end (codes "E") p.left n)
+
+pub argument_missed : (f : ℕ) (c : Bool) (p : Spot) (e : Table) → 10 ≤ f → next_is (these "E") p.left ≡ true
+    → IsMissed (cread f Row.template_arg c (here p e) [])
+unfolding rule takes_in first_in idle_in
+argument_missed f c p e l n =
+    apart_missed Row.template_arg 10 (codes "E") f c (here p e) refl l (one_or_end (codes "E") p.left n)

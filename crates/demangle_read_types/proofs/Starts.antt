@@ -1,6 +1,5 @@
 -- Alternatives that the next bytes leave, beside those of the forms.
-use Rattle.std.proofs.Common.{◌≡◌, refl, arith, ℕ, zero, suc, ◌≤◌, Bool, true, false, List, [], ◌∷◌, Ok}
-use Rattle.std.specs.Prelude.{codes}
+use Rattle.std.proofs.Common.{◌≡◌, refl, arith, ℕ, zero, suc, ◌≤◌, Bool, false, List, [], ◌∷◌, Ok}
 use Rattle.demangle_text.specs.Spot.{Spot}
 use Rattle.demangle_core.specs.Table.{Table}
 use Rattle.demangle_vocab.specs.Builtins.{builtin_words}

@@ -1,12 +1,13 @@
 -- Lists whose trees wait, as the readers of lists use them.
-use Rattle.std.proofs.Common.{◌≡◌, refl, ap, ◌∙◌, sym, ℕ, Bool, true, false, List, [], ◌∷◌, ◌++◌, length, take, drop, map}
+use Rattle.std.proofs.Common.{◌≡◌, ap, ◌∙◌, sym, ℕ, true, false, List, [], ◌∷◌, ◌++◌, length, take, drop, map}
 use Rattle.std.proofs.Common.{append_assoc, take-append-drop}
 use Rattle.demangle_core.specs.Core.{Core}
-use Rattle.demangle_core.specs.Table.{Table}
 use Rattle.demangle_cells.specs.Entries.{ids_of}
-use Rattle.demangle_cells.specs.View.{View, Holds, table, entry, Grown, Waited, since, KeepsTrees, IsMark, FitsMark, IsCut}
+use Rattle.demangle_cells.specs.View.{View, Holds, table, entry, Grown, Waited, since, KeepsTrees, IsMark, FitsMark}
+use Rattle.demangle_cells.specs.View.{IsCut}
 use Rattle.demangle_cells.specs.declared.entry.Mark as mark
-use Rattle.demangle_cells.proofs.Waits.{waited_self, waited_on, waited_grown, waited_cut, waited_kept, since_self, since_more}
+use Rattle.demangle_cells.proofs.Waits.{waited_self, waited_on, waited_grown, waited_cut, waited_kept, since_self}
+use Rattle.demangle_cells.proofs.Waits.{since_more}
 use Rattle.demangle_cells.proofs.Waits.{gathered_grown, gathered_table, waited_fits, drop_front}
 use Rattle.demangle_cells.proofs.Lists.{take_less}
 use Rattle.demangle_cells.proofs.Grows.{grown_self}
@@ -20,10 +21,6 @@ waited_holds F a b w h = w.holds F h
 -- the first that waits
 pub waited_first : (a b d : View) (i : ℕ) → Grown a b → KeepsTrees b d → d.waiting ≡ b.waiting ++ i ∷ [] → Waited a d
 waited_first a b d i g k e = waited_on a a b d i (waited_self a) g k e
-
-pub since_first : (a b d : View) (i : ℕ) → Grown a b → d.waiting ≡ b.waiting ++ i ∷ [] → since a d ≡ i ∷ []
-since_first a b d i g e =
-    since_more a a b d i (waited_self a) g e ∙ ap (λ l. l ++ i ∷ []) (since_self a)
 
 pub waited_marks : (a b : View) (m : mark.Mark) → IsMark a m → Waited a b → FitsMark b m
 waited_marks a b m i w =

@@ -59,7 +59,7 @@ fn length_to_e(bytes: &[u8]) -> usize
     bytes.len()
 }
 
-/// Where the value of a literal ends, ABI section 5.1.6, <expr-primary>: before the next `E`, or at the end of the text.
+/// Where the value of a literal ends, ABI section 5.1.6, <expr-primary>: before the next `E`, or where the text ends.
 #[tactic(auto, using(demangle_read_rows::proofs::Places::places), unfolding(demangle_grammar::specs::Code::eat_at))]
 pub fn up_to_e(text: Text<'_>, at: u32) -> u32
     ensures { eat_at (Eat.upto 69) (spot_at text.entry at) ≡ Ok (place at result end, spot_at text.entry result) }

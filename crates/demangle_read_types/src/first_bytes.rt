@@ -42,7 +42,8 @@ pub enum TypeStart {
 #[inline(always)]
 #[tactic(auto, using(demangle_forms::proofs::TypeStarts::type_starts))]
 pub fn type_start(depth: Depth, text: Text<'_>, at: u32) -> TypeStart
-    ensures { (table : Table) → type_handle_at (cread depth.levels) depth.conversion (here (spot_at text.entry at) table)
+    ensures { (table : Table) → type_handle_at (cread depth.levels) depth.conversion
+        (here (spot_at text.entry at) table)
         ≡ type_from (form_of_start result) (cread depth.levels) depth.conversion (here (spot_at text.entry at) table) }
 {
     if depth.levels < SHALLOW {

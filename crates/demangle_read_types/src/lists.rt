@@ -1,16 +1,22 @@
 //! Lists of rows, whose trees wait until the list is read.
 
-ghost use Rattle.std.specs.Prelude.{◌≡◌, ◌<◌};
+ghost use Rattle.std.specs.Prelude.{◌≡◌, ◌≤◌, ◌<◌, true};
 ghost use Rattle.demangle_text.specs.Kind.{ends, kind};
 ghost use Rattle.demangle_grammar.specs.Rule.{Row};
+ghost use Rattle.demangle_grammar.specs.Items.{these};
+ghost use Rattle.demangle_grammar.specs.Reading.{next_is};
 ghost use Rattle.demangle_grammar.specs.Code.{all_at, cread, some_at};
-ghost use Rattle.demangle_cells.specs.Reads.{ListsPart};
+ghost use Rattle.demangle_cells.specs.Reads.{ListsPart, spot_at};
 ghost use Rattle.demangle_cells.specs.View.{FitsMark, Waited, view};
 ghost use Rattle.demangle_read_types.specs.Lists.{Lengthens, ReadsRest};
 
 use demangle_cells::{Arena, Depth, Mark, Part, Text};
 use demangle_read_below::Below;
+use demangle_read_rows::next_is;
 use demangle_text::{Error, Result};
+
+/// As many levels as trying a row of these lists at an `E` may enter.
+const ENDED: u32 = 10;
 
 /// Whether an error ends the whole reading, so that no other alternative is tried.
 fn ends_reading(error: Error) -> bool
@@ -52,6 +58,15 @@ pub fn lengthened(
     }
 }
 
+/// Whether an `E` is next, with which neither a type nor a template argument begins, and levels enough are left to say
+/// so without trying one.
+#[inline(always)]
+fn ends_list(depth: Depth, text: Text<'_>, at: u32) -> bool
+    ensures { result ≡ true → (10 ≤ depth.levels) × (next_is (these "E") (spot_at text.entry at).left ≡ true) }
+{
+    depth.levels >= ENDED && next_is(text, at, b'E')
+}
+
 /// As many types as can be read, behind those of the list that were read before.
 #[tactic(auto, using(demangle_cells::proofs::Waits::waited_grown, crate::proofs::Waits::waited_marks))]
 pub fn rest_of_types<B: Below>(
@@ -69,7 +84,10 @@ pub fn rest_of_types<B: Below>(
 {
     let mark = arena.mark();
     let mut end = at;
-    loop {
+    'rows: loop {
+        if ends_list(depth, text, end) {
+            return Ok(end);
+        }
         let answer = below.type_handle(arena, depth, text, end);
         let more = match lengthened(arena, mark, answer, end) {
             Ok(more) => more,
@@ -99,7 +117,10 @@ pub fn rest_of_arguments<B: Below>(
 {
     let mark = arena.mark();
     let mut end = at;
-    loop {
+    'rows: loop {
+        if ends_list(depth, text, end) {
+            return Ok(end);
+        }
         let answer = below.template_arg(arena, depth, text, end);
         let more = match lengthened(arena, mark, answer, end) {
             Ok(more) => more,

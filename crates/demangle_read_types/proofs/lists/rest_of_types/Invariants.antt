@@ -4,11 +4,12 @@ use Rattle.demangle_cells.specs.View.{Waited, view}
 use Rattle.demangle_read_types.specs.Lists.{Reaches}
 use Rattle.demangle_read_types.proofs.lists.rest_of_types.Given as goal
 
-abbrev pub invariant-loop-more : goal.invariant-loop-more
-invariant-loop-more g l = record {
+abbrev pub invariant-rows : goal.invariant-rows
+invariant-rows g l = record {
   waited : Waited (view l.fn.arena) (view l.arena);
-  reaches : Reaches Row.type_handle l.depth.levels l.depth.conversion l.text l.at l.end (view l.fn.arena) (view l.arena);
+  reaches : Reaches Row.type_handle l.depth.levels l.depth.conversion l.text l.at l.end (view l.fn.arena)
+      (view l.arena);
 }
 
-abbrev pub decreases-loop-more : goal.decreases-loop-more
-decreases-loop-more g l = 2 ^ 32 - l.end
+abbrev pub decreases-rows : goal.decreases-rows
+decreases-rows g l = 2 ^ 32 - l.end

@@ -5,13 +5,15 @@ use Rattle.demangle_read_types.proofs.lists.some_arguments.Goals as goal
 pub returns-in-Err-clause-reads : goal.returns-in-Err-clause-reads
 returns-in-Err-clause-reads g c =
     let d = c.args.depth in
-    none_fails d.levels Row.template_arg Row.template_arg d.conversion c.args.text c.args.at _ _ c.in-Err.error c.in-Err.ensures.reads
+    none_fails d.levels Row.template_arg Row.template_arg d.conversion c.args.text c.args.at _ _ c.in-Err.error
+    c.in-Err.ensures.reads
 
 pub returns-in-Ok-rest_of_arguments-clause-reads : goal.returns-in-Ok-rest_of_arguments-clause-reads
 returns-in-Ok-rest_of_arguments-clause-reads g c =
     let d = c.args.depth in
     let w = c.in_ok-wait.ensures in
-    some_ends d.levels Row.template_arg Row.template_arg d.conversion c.args.text c.args.at c.in-Ok.first _ _ _ _ c.in-Ok.ensures.grown
+    some_ends d.levels Row.template_arg Row.template_arg d.conversion c.args.text c.args.at c.in-Ok.first _ _ _ _
+    c.in-Ok.ensures.grown
     w.kept w.waits c.in-Ok.ensures.reads c.in-Ok-rest_of_arguments.ensures.waited c.in-Ok-rest_of_arguments.end
     c.in-Ok-rest_of_arguments.ensures.reads
 
@@ -20,5 +22,7 @@ returns-in-Err-rest_of_arguments-clause-reads g c =
     let d = c.args.depth in
     let w = c.in_ok-wait.ensures in
     let e = c.in-Err-rest_of_arguments in
-    some_fails d.levels Row.template_arg Row.template_arg d.conversion c.args.text c.args.at c.in-Ok.first _ _ _ _ c.in-Ok.ensures.grown
-    w.kept w.waits c.in-Ok.ensures.reads e.ensures.waited _ _ e.error c.mark-mark.ensures c.cut_back.ensures e.ensures.reads
+    some_fails d.levels Row.template_arg Row.template_arg d.conversion c.args.text c.args.at c.in-Ok.first _ _ _ _
+    c.in-Ok.ensures.grown
+    w.kept w.waits c.in-Ok.ensures.reads e.ensures.waited _ _ e.error c.mark-mark.ensures c.cut_back.ensures
+    e.ensures.reads
