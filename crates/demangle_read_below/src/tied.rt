@@ -47,7 +47,8 @@ where
         × MayRead Row.template_arg (ReadArgument.pre s.template_arg) (ReadArgument.post s.template_arg) s.most.levels
         × MayRead Row.name (ReadName.pre s.name) (ReadName.post s.name) s.most.levels
         × MayRead Row.encoding (ReadEncoding.pre s.encoding) (ReadEncoding.post s.encoding) s.most.levels
-        × MayRead Row.mangled_name (ReadMangledName.pre s.mangled_name) (ReadMangledName.post s.mangled_name) s.most.levels };
+        × MayRead Row.mangled_name (ReadMangledName.pre s.mangled_name) (ReadMangledName.post s.mangled_name)
+        s.most.levels };
 
     fn type_handle(self, arena: &mut Arena, depth: Depth, text: Text<'_>, at: u32) -> Result<Part> {
         (self.type_handle)(arena, depth, text, at)

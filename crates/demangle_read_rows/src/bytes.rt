@@ -87,8 +87,8 @@ pub fn decimal(text: Text<'_>, at: u32) -> Result<(usize, u32)>
 }
 
 /// A number without a sign in base 10 or 36, and where the text goes on. `UnexpectedEnd` where nothing is left,
-/// `UnexpectedText` where no digit is next or where a `0` stands before another digit, `Overflow` where the value passes
-/// 2^63 - 1.
+/// `UnexpectedText` where no digit is next or where a `0` stands before another digit, `Overflow` where the value
+/// passes 2^63 - 1.
 #[tactic(auto, using(crate::proofs::Places::numbers))]
 pub fn unsigned(text: Text<'_>, at: u32, base: u32) -> Result<(usize, u32)>
     requires { (base ≡ 10) ⊎ (base ≡ 36) }
