@@ -17,9 +17,11 @@ abbrev pub source_name_tree : at.Place → Core
 source_name_tree p = node Tag.SourceName (identifier_tree p) end
 
 -- the row is the place, and the text goes on behind it
-abbrev pub ReadsPlace : Row → (at.Place → Core) → (levels : ℕ) → Bool → Text → (from : ℕ) → Result at.Place Error → Type 0
+abbrev pub ReadsPlace : Row → (at.Place → Core) → (levels : ℕ) → Bool → Text → (from : ℕ) → Result at.Place Error
+    → Type 0
 ReadsPlace row tree levels conversion text from (Ok x) = (table : Table)
-    → cread levels row conversion (here (spot_at text from) table) [] ≡ Found (tree x) (here (spot_at text x.stop) table)
+    → cread levels row conversion (here (spot_at text from) table) []
+    ≡ Found (tree x) (here (spot_at text x.stop) table)
 ReadsPlace row tree levels conversion text from (Err e) = (table : Table)
     → cread levels row conversion (here (spot_at text from) table) [] ≡ Refused (kind e)
 

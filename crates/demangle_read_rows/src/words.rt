@@ -55,8 +55,9 @@ pub fn simple_operator_name(
     })
 }
 
-/// The number of the builtin type there, and where the text goes on. Where no word of the table is there, `UnexpectedEnd`
-/// exactly where all bytes that are left are a proper prefix of a word, as no bytes are, and else `UnexpectedText`.
+/// The number of the builtin type there, and where the text goes on. Where no word of the table is there,
+/// `UnexpectedEnd` exactly where all bytes that are left are a proper prefix of a word, as no bytes are, and else
+/// `UnexpectedText`.
 #[tactic(auto, using(crate::proofs::Places::tables))]
 pub fn builtin_word(text: Text<'_>, at: u32) -> Result<(u8, u32)>
     ensures { Gives (λ x. (x.0, spot_at text.entry x.1)) result (table_from builtin_words (spot_at text.entry at)) }
@@ -90,8 +91,9 @@ pub fn standard_builtin_type(
     })
 }
 
-/// The number of the abbreviated name there, and where the text goes on. Where no word of the table is there, `UnexpectedEnd`
-/// exactly where all bytes that are left are a proper prefix of a word, as no bytes are, and else `UnexpectedText`.
+/// The number of the abbreviated name there, and where the text goes on. Where no word of the table is there,
+/// `UnexpectedEnd` exactly where all bytes that are left are a proper prefix of a word, as no bytes are, and else
+/// `UnexpectedText`.
 #[tactic(auto, using(crate::proofs::Places::tables))]
 pub fn component_word(text: Text<'_>, at: u32) -> Result<(u8, u32)>
     ensures { Gives (λ x. (x.0, spot_at text.entry x.1)) result (table_from component_words (spot_at text.entry at)) }
@@ -125,11 +127,13 @@ pub fn well_known_component(
     })
 }
 
-/// The number of the ref-qualifier there, and where the text goes on. Where no word of the table is there, `UnexpectedEnd`
-/// exactly where all bytes that are left are a proper prefix of a word, as no bytes are, and else `UnexpectedText`.
+/// The number of the ref-qualifier there, and where the text goes on. Where no word of the table is there,
+/// `UnexpectedEnd` exactly where all bytes that are left are a proper prefix of a word, as no bytes are, and else
+/// `UnexpectedText`.
 #[tactic(auto, using(crate::proofs::Places::tables))]
 pub fn ref_qualifier_word(text: Text<'_>, at: u32) -> Result<(u8, u32)>
-    ensures { Gives (λ x. (x.0, spot_at text.entry x.1)) result (table_from ref_qualifier_words (spot_at text.entry at)) }
+    ensures { Gives (λ x. (x.0, spot_at text.entry x.1)) result
+        (table_from ref_qualifier_words (spot_at text.entry at)) }
 {
     let (word, rest) = RefQualifier::read_word(IndexStr::new(text.rest(at)))?;
     Ok((word.number(), behind(text, at, rest.index())))
@@ -159,7 +163,8 @@ pub fn ref_qualifier(arena: &mut Arena, depth: Depth, text: Text<'_>, at: u32) -
 /// exactly where all bytes that are left are a proper prefix of a word, as no bytes are, and else `UnexpectedText`.
 #[tactic(auto, using(crate::proofs::Places::tables))]
 pub fn explicit_object_word(text: Text<'_>, at: u32) -> Result<(u8, u32)>
-    ensures { Gives (λ x. (x.0, spot_at text.entry x.1)) result (table_from explicit_object_words (spot_at text.entry at)) }
+    ensures { Gives (λ x. (x.0, spot_at text.entry x.1)) result
+        (table_from explicit_object_words (spot_at text.entry at)) }
 {
     let (word, rest) = ExplicitObjectParameter::read_word(IndexStr::new(text.rest(at)))?;
     Ok((word.number(), behind(text, at, rest.index())))
