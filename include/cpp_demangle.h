@@ -89,6 +89,38 @@ uint32_t cpp_demangle_version(void);
 uint32_t cpp_demangle_text(const char *name, size_t name_len, const struct cpp_demangle_options *options, char *room,
                            size_t room_len, size_t *text_len);
 
+/* What a name is of. A kind keeps its number. */
+enum cpp_demangle_kind {
+    CPP_DEMANGLE_NO_KIND = 0,  /* it has no text */
+    CPP_DEMANGLE_FUNCTION = 1, /* a function, f(): _Z1fv */
+    CPP_DEMANGLE_DATA = 2,     /* a variable, A::x: _ZN1A1xE */
+    CPP_DEMANGLE_SPECIAL = 3,  /* what the compiler makes, the virtual table of A: _ZTV1A */
+    CPP_DEMANGLE_BLOCK = 4,    /* what one of Apple's blocks is compiled to: ___Z1fv_block_invoke */
+    CPP_DEMANGLE_KEYED = 5,    /* what runs constructors or destructors of a file's variables: _GLOBAL__I__Z1fv */
+    CPP_DEMANGLE_TYPE = 6      /* a type alone, int*: Pi */
+};
+
+/* The arity that stands for none. */
+#define CPP_DEMANGLE_NO_ARITY SIZE_MAX
+
+/* Where the parts of a name stand in its text. */
+struct cpp_demangle_places {
+    uint32_t kind;    /* a cpp_demangle_kind */
+    bool has_scope;   /* whether it is in a class or a namespace; the text begins with that one's */
+    size_t scope_len; /* bytes of the scope; 0 where there is none */
+    size_t base_at;   /* where the name in it begins: behind the scope and ::, or 0 */
+    size_t base_len;  /* bytes of the name in its scope, template arguments included; behind it are parameters */
+    size_t arity;     /* how many parameters a function has, or CPP_DEMANGLE_NO_ARITY */
+};
+
+/*
+ * Puts the text of a linker name into a buffer, as cpp_demangle_text does under these options and no_return_type, and
+ * tells where its parts stand in it. Codes, buffer and *text_len are as of that call. places isn't null; where the
+ * answer is neither CPP_DEMANGLE_DONE nor CPP_DEMANGLE_NO_ROOM, it is set to no kind, no scope, zeros and no arity.
+ */
+uint32_t cpp_demangle_parts(const char *name, size_t name_len, const struct cpp_demangle_options *options, char *room,
+                            size_t room_len, size_t *text_len, struct cpp_demangle_places *places);
+
 /*
  * Puts what a code says, in English, into a buffer, as cpp_demangle_text does a name's text, and with its answers
  * CPP_DEMANGLE_DONE, CPP_DEMANGLE_NO_ROOM and CPP_DEMANGLE_BAD_LENGTH; CPP_DEMANGLE_UNKNOWN_CODE exactly where the

@@ -29,6 +29,8 @@ CODES = {"Read": {"UnexpectedEnd": 1, "UnexpectedText": 2, "Overflow": 3, "TooMu
          "Print": {"BadTemplateArgReference": 5, "ForwardTemplateArgReference": 6, "BadLeafNameReference": 7,
                    "TooMuchRecursion": 8, "NotUtf8": 9, "TooLong": 10}}
 
+KINDS = ["", "Function", "Data", "Special", "Block", "Keyed", "TopType"]
+
 
 def question(line):
     """The line that asks printings.c of a printing."""
@@ -52,11 +54,29 @@ def of_parts(line):
     return {"parse": 96, **printings.DEFAULTS, "name": line["name"], "r": True, "outcome": outcome}
 
 
+def divided():
+    """The names whose parts are known, but for those that are read since the file was made."""
+    return [line for line in printings.lines_of(parts_answers.CHOSEN) if line["name"] not in parts_answers.READ_SINCE]
+
+
 def questions():
     lines = [line for path in (printings.BY_HAND, printings.CHOSEN) for line in printings.lines_of(path)]
-    known = [line for line in printings.lines_of(parts_answers.CHOSEN) if line["name"] not in parts_answers.READ_SINCE]
-    lines += [of_parts(line) for line in known]
+    lines += map(of_parts, divided())
     return "".join(question(line) for line in lines if "outcome" in line)
+
+
+def division(line):
+    """The line that asks parts.c of a name whose parts are known."""
+    name, (kind, *parts) = line["name"].encode("latin-1").hex(), line["parts"]
+    if kind in CODES:
+        return f"{CODES[kind][parts[0]]} 0 any x{name} - x x\n"
+    scope, base, after, arity = parts
+    words = " ".join("-" if part is None else "x" + part.encode().hex() for part in (scope, base, after))
+    return f"0 {KINDS.index(kind)} {'any' if arity is None else arity} x{name} {words}\n"
+
+
+def divisions():
+    return "".join(map(division, divided()))
 
 
 def run(words, given="", folder=ROOT):
@@ -83,7 +103,7 @@ def programs(folder, archive):
             if ending == suffix:
                 program = os.path.join(folder, stem)
                 run([*compiler, os.path.join(SOURCES, file), archive, "-o", program])
-                tried(program, questions() if stem == "printings" else "")
+                tried(program, GIVEN[stem]() if stem in GIVEN else "")
 
 
 def shown(document, language):
@@ -110,6 +130,9 @@ def example(folder, archive, document, language, compiler, words):
     if told != expected:
         sys.exit(f"the program of {document} in {language} prints\n{told}")
     print(f"the program of {document} in {language} prints what is shown")
+
+
+GIVEN = {"printings": questions, "parts": divisions}
 
 
 def main():

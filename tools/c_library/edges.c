@@ -26,7 +26,7 @@ static void check_lengths(void)
     holds(len == 3, "and the length is told");
     len = 9;
     holds(cpp_demangle_text("_Z1fv", above, &options, room, 8, &len) == CPP_DEMANGLE_BAD_LENGTH, "a long name");
-    holds(cpp_demangle_text("_Z1fv", 5, &options, room, SIZE_MAX, &len) == CPP_DEMANGLE_BAD_LENGTH, "a long buffer");
+    holds(cpp_demangle_text("_Z1fv", 5, &options, room, above, &len) == CPP_DEMANGLE_BAD_LENGTH, "a long buffer");
     holds(cpp_demangle_cause_text(1, room, above, &len) == CPP_DEMANGLE_BAD_LENGTH, "also for a code");
     holds(len == 0 && strcmp(room, "kept") == 0, "and each leaves the buffer");
 }
@@ -48,7 +48,7 @@ static void check_codes(void)
     holds(code_of("_Z1fv", 96, 128, CPP_DEMANGLE_ANY_LENGTH) == CPP_DEMANGLE_DONE, "done");
     holds(code_of("_Z", 96, 128, CPP_DEMANGLE_ANY_LENGTH) == CPP_DEMANGLE_UNEXPECTED_END, "cut off");
     holds(code_of("main", 96, 128, CPP_DEMANGLE_ANY_LENGTH) == CPP_DEMANGLE_UNEXPECTED_TEXT, "no linker name");
-    holds(code_of("_ZTC1a99999999999999999999_1b", 96, 128, CPP_DEMANGLE_ANY_LENGTH) == CPP_DEMANGLE_OVERFLOW, "a number");
+    holds(code_of("_ZTC1a99999999999999999999_1b", 96, 128, 9) == CPP_DEMANGLE_OVERFLOW, "a number");
     holds(code_of("_Z1fv", 1, 128, CPP_DEMANGLE_ANY_LENGTH) == CPP_DEMANGLE_NAME_TOO_DEEP, "one level to read");
     holds(code_of("_Z1fv", 96, 1, CPP_DEMANGLE_ANY_LENGTH) == CPP_DEMANGLE_TEXT_TOO_DEEP, "one level to print");
     holds(code_of("_Z1fT_", 96, 128, CPP_DEMANGLE_ANY_LENGTH) == CPP_DEMANGLE_BAD_TEMPLATE_ARG, "no argument");

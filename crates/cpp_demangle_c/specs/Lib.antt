@@ -1,4 +1,5 @@
 pub mod Asked
 pub mod Causes
 pub mod Codes
+pub mod Divided
 pub mod Told

@@ -4,11 +4,13 @@
 
 mod cause;
 mod codes;
+mod parts;
 mod settings;
 mod text;
 mod version;
 
 pub use cause::cpp_demangle_cause_text;
+pub use parts::{Places, cpp_demangle_parts};
 pub use settings::Settings;
 pub use text::cpp_demangle_text;
 pub use version::cpp_demangle_version;
