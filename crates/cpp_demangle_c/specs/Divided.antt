@@ -47,10 +47,6 @@ IsPartsAnswer answer (Err (fault.Print e)) = answer ≡ Err (fault.Print e)
 IsPartsAnswer answer (Err fault.OutOfMemory) = Unit {0}
 
 -- ---- in a text
--- a name's text is divided without its result type
-abbrev pub without_result : Settings → Settings
-without_result s = record s { no_return_type = true }
-
 -- scope and `::`, where there is one, base and what is behind it
 abbrev pub joined : Parts → List ℕ
 joined p = in_scope p.cut.scope p.cut.base ++ p.cut.after
@@ -58,6 +54,17 @@ joined p = in_scope p.cut.scope p.cut.base ++ p.cut.after
 abbrev pub parts_text : Result Parts SymbolFault → Result (List ℕ) SymbolFault
 parts_text (Ok p) = Ok (joined p)
 parts_text (Err f) = Err f
+
+-- a name's text is divided without its result type
+abbrev pub without_result : Settings → Settings
+without_result s = record s { no_return_type = true }
+
+-- They join to this text, or this is why there are none; or there was no memory.
+abbrev pub IsTextAnswer : Result (List ℕ) SymbolFault → Result code.Parts SymbolFault → Type 0
+IsTextAnswer answer (Ok p) = answer ≡ Ok (joined (parts_in p))
+IsTextAnswer answer (Err (fault.Read e)) = answer ≡ Err (fault.Read e)
+IsTextAnswer answer (Err (fault.Print e)) = answer ≡ Err (fault.Print e)
+IsTextAnswer answer (Err fault.OutOfMemory) = Unit {0}
 
 abbrev pub kind_number : Kind → ℕ
 kind_number kind.Function = 1

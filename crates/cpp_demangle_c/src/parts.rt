@@ -6,8 +6,8 @@ ghost use Rattle.cpp_demangle.specs.declared.demangle.SymbolFault.TheVariants.{O
 ghost use Rattle.demangle_parts.specs.Answers.{parts_in};
 ghost use Rattle.cpp_demangle_c.specs.Asked.{IsInRange, answer};
 ghost use Rattle.cpp_demangle_c.specs.Codes.{fault_at};
-ghost use Rattle.cpp_demangle_c.specs.Divided.{IsPartsAnswer, TellsPlaces, joined, kind_number, no_places};
-ghost use Rattle.cpp_demangle_c.specs.Divided.{parts_answer, parts_text, places_of, without_result};
+ghost use Rattle.cpp_demangle_c.specs.Divided.{IsPartsAnswer, IsTextAnswer, TellsPlaces, joined, kind_number};
+ghost use Rattle.cpp_demangle_c.specs.Divided.{no_places, parts_answer, parts_text, places_of, without_result};
 ghost use Rattle.cpp_demangle_c.specs.Told.{HoldsText, LacksRoom, code_due, room_due};
 
 use crate::codes::{BAD_LENGTH, BAD_OPTION, DONE, NO_ROOM, OUT_OF_MEMORY, code_of};
@@ -124,8 +124,7 @@ fn print_fault(error: DemangleError) -> SymbolFault
 fn parts_of_name(alloc: Global, name: &[u8], options: &Settings) -> Result<Parts, SymbolFault>
     requires { IsInRange options.now }
     ensures answer { IsPartsAnswer (parts_answer options.now name.now) result }
-    ensures text { IfOk result
-        (λ parts. answer (without_result options.now) name.now ≡ Ok (joined (parts_in parts))) }
+    ensures text { IsTextAnswer (answer (without_result options.now) name.now) result }
     ensures causes { IfErr result (λ e. may_come e ≡ true) }
 {
     let symbol: Result<BorrowedSymbol<'_>, Error> = Symbol::new_with_options(
@@ -180,15 +179,15 @@ pub extern "C" fn cpp_demangle_parts(
 ) -> u32
     ensures option { (result ≡ BAD_OPTION) ↔ ¬ IsInRange options.now }
     ensures code { IsInRange options.now → result ≢ OUT_OF_MEMORY
-        → result ≡ code_due (parts_text (parts_answer options.now name.now)) (length room.old) }
+        → result ≡ code_due (answer (without_result options.now) name.now) (length room.old) }
     ensures cause { IfSome (fault_at result)
-        (λ f. f ≢ OutOfMemory → parts_answer options.now name.now ≡ Err f) }
+        (λ f. f ≢ OutOfMemory → answer (without_result options.now) name.now ≡ Err f) }
     ensures text { result ≡ DONE
-        → HoldsText (parts_text (parts_answer options.now name.now)) text_len.new room.old room.new }
-    ensures as_text { result ≡ DONE
         → HoldsText (answer (without_result options.now) name.now) text_len.new room.old room.new }
     ensures no_room { result ≡ NO_ROOM
-        → LacksRoom (parts_text (parts_answer options.now name.now)) text_len.new room.old }
+        → LacksRoom (answer (without_result options.now) name.now) text_len.new room.old }
+    ensures joins { (result ≡ DONE) ⊎ (result ≡ NO_ROOM)
+        → answer (without_result options.now) name.now ≡ parts_text (parts_answer options.now name.now) }
     ensures places { (result ≡ DONE) ⊎ (result ≡ NO_ROOM)
         → TellsPlaces (parts_answer options.now name.now) places.new }
     ensures kept { result ≢ DONE → room.new ≡ room.old }

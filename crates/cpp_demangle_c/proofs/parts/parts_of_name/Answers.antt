@@ -3,7 +3,7 @@ use Rattle.cpp_demangle.specs.SymbolOf.{contents_of}
 use Rattle.demangle_parts.specs.Answers.{parts_in}
 use Rattle.demangle_parts.specs.Parts.{divided}
 use Rattle.cpp_demangle_c.specs.Divided.{parts_answer, parts_from}
-use Rattle.cpp_demangle_c.proofs.PartsLaws.{answer-not-printed, answer-read, text-read}
+use Rattle.cpp_demangle_c.proofs.PartsLaws.{answer-not-printed, answer-read, text-not-read, text-read, text-refused}
 use Rattle.cpp_demangle_c.proofs.parts.parts_of_name.Goals as goal
 
 pub returns-in-Ok-parts_of-clause-answer : goal.returns-in-Ok-parts_of-clause-answer
@@ -25,3 +25,12 @@ returns-in-Err-parts_of-clause-answer c =
     answer-not-printed (parts_answer c.args.options.now c.args.name.now)
     (divided c.print.result (contents_of c.in-Ok.symbol)) c.in-Err-parts_of.error c.print_fault.result read
     c.print_fault.ensures c.in-Err-parts_of.ensures.parts
+
+pub returns-in-Err-parts_of-clause-text : goal.returns-in-Err-parts_of-clause-text
+returns-in-Err-parts_of-clause-text c =
+    text-refused c.args.options.now c.args.name.now c.print_fault.result (returns-in-Err-parts_of-clause-answer c)
+
+pub returns-in-Err-clause-text : goal.returns-in-Err-clause-text
+returns-in-Err-clause-text c =
+    text-not-read c.args.options.now c.args.name.now c.parse.result c.in-Err.error c.read_fault.result c.parse.ensures
+    c.read_fault.ensures c.in-Err.ensures.read
