@@ -1,8 +1,10 @@
 -- What a call asks for: the options in the library's words, and the answer of a name under them.
-use Rattle.std.specs.Prelude.{ℕ, ◌<◌, ◌==◌, ◌^◌, ◌-◌, if◌then◌else◌, List, Option, Some, None, Result}
+use Rattle.std.specs.Prelude.{◌≡◌, ℕ, ◌<◌, ◌==◌, ◌^◌, ◌-◌, if◌then◌else◌, List, Option, Some, None, Result, Ok, Err, Vec}
+use Rattle.std.specs.declared.alloc.Global.{Global}
 use Rattle.demangle_printing.specs.Outcome.{Options, outcome}
 use Rattle.cpp_demangle.specs.Answer.{answer_of}
 use Rattle.cpp_demangle.specs.declared.demangle.SymbolFault.{SymbolFault}
+use Rattle.cpp_demangle.specs.declared.demangle.SymbolFault.TheVariants as fault
 use Rattle.cpp_demangle_c.specs.declared.settings.Settings.{Settings}
 
 -- neither limit on levels is 0
@@ -25,3 +27,10 @@ print_options s = record {
 -- the name's text under these options, or why it has none
 abbrev pub answer : Settings → (name : List ℕ) → Result (List ℕ) SymbolFault
 answer s name = answer_of (outcome s.parse_limit (print_options s) name)
+
+-- It is this text, or this is why there is none; or there was no memory.
+abbrev pub IsTextOf : Result (List ℕ) SymbolFault → Result (Vec ℕ Global) SymbolFault → Type 0
+IsTextOf answer (Ok text) = answer ≡ Ok text.items
+IsTextOf answer (Err (fault.Read e)) = answer ≡ Err (fault.Read e)
+IsTextOf answer (Err (fault.Print e)) = answer ≡ Err (fault.Print e)
+IsTextOf answer (Err fault.OutOfMemory) = Unit {0}

@@ -4,6 +4,7 @@
 
 mod cause;
 mod codes;
+mod filling;
 mod parts;
 mod settings;
 mod text;

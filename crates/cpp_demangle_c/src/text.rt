@@ -7,8 +7,8 @@ ghost use Rattle.cpp_demangle_c.specs.Codes.{fault_at};
 ghost use Rattle.cpp_demangle_c.specs.Told.{HoldsText, LacksRoom, code_due, put, room_due};
 
 use crate::codes::{BAD_LENGTH, BAD_OPTION, DONE, NO_ROOM, OUT_OF_MEMORY, code_of};
+use crate::filling::text_of;
 use crate::settings::Settings;
-use cpp_demangle::demangle_symbol;
 use std::alloc::Global;
 
 /// The most bytes that a name or a room has.
@@ -77,8 +77,8 @@ pub extern "C" fn cpp_demangle_text(
     if !options.is_in_range() {
         return BAD_OPTION;
     }
-    match demangle_symbol(alloc, name, &options.parse(), &options.print()) {
-        Ok(text) => hand_out(text.as_bytes(), room, text_len),
+    match text_of(alloc, name, options) {
+        Ok(text) => hand_out(text.as_slice(), room, text_len),
         Err(fault) => code_of(fault),
     }
 }
