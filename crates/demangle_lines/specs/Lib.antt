@@ -1,3 +1,5 @@
 pub mod Shapes
 pub mod ScopeOf
 pub mod PlaceAt
+pub mod Pieces
+pub mod Does

@@ -2,9 +2,14 @@
 //! printed, what lies below it, and the steps of which lines are made.
 #![tactic(auto)]
 
+mod at;
 mod below;
+mod bytes;
 mod level;
+mod parts;
 mod scope;
+mod tags;
+mod tests;
 mod tree;
 
 pub use below::Below;

@@ -7,7 +7,7 @@ ghost use Rattle.demangle_printing.specs.Reader.{bytes_seen, index_seen};
 ghost use Rattle.demangle_printing.specs.Rules.{of_part};
 ghost use Rattle.demangle_printing.specs.Trees.{began_at, look_in, with_table};
 ghost use Rattle.demangle_printing.specs.World.{nth, parts_seen};
-ghost use Rattle.demangle_lines.specs.Shapes.{number_of, shape_in, value_seen};
+ghost use Rattle.demangle_lines.specs.Shapes.{leaf_text_seen, number_of, shape_in, text_seen, value_seen};
 
 use demangle_context::RefersTo;
 
@@ -72,6 +72,16 @@ pub trait Tree<S>: RefersTo<S> {
     /// The number, where it is one that isn't below zero; 0 elsewhere.
     fn index(self) -> usize
         ensures { (table : Table) (input : List ℕ) → result ≡ index_seen (look_in table input (Self.tree self)) };
+
+    /// The text, where it is a word.
+    fn text(self) -> &'static str
+        ensures { (table : Table) (input : List ℕ) → result.now
+            ≡ text_seen (look_in table input (Self.tree self)) };
+
+    /// The text of a leaf name, where it is a component, which is a word.
+    fn leaf_text(self) -> &'static str
+        ensures { (table : Table) (input : List ℕ) → result.now
+            ≡ leaf_text_seen (look_in table input (Self.tree self)) };
 
     /// Where it began in the input, where it is a list of template arguments; 0 elsewhere.
     fn began(self) -> usize

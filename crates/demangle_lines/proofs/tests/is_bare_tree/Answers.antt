@@ -1,0 +1,22 @@
+use Rattle.std.proofs.Common.{◌≡◌, ℕ, ◌+◌, ◌<◌, ◌||◌, ◌&&◌, true, false, [], ◌∷◌, length, drop, Some, None, option_map, refl, sym, ◌∙◌, ap, is_some, bytes_eq, arith}
+use Rattle.demangle_core.specs.Core.{Core}
+use Rattle.demangle_printing.specs.World.{nth, parts, find, listed, see}
+use Rattle.demangle_printing.specs.Rules.{is_set, is_seen_word, tag_seen, args_of, tag}
+use Rattle.demangle_printing.specs.Reader.{bytes_seen, is_bare, is_bare_node, is_external, is_present, is_special_tree}
+use Rattle.demangle_printing.specs.Texts.{is_anonymous, is_negative}
+use Rattle.demangle_printing.specs.Parameters.{any_set}
+use Rattle.demangle_core.specs.Lookups.{as_prefix, as_type}
+use Rattle.demangle_meets.specs.Place.{world_of}
+use Rattle.demangle_lines.specs.Shapes.{flag_shape, is_tag, is_word_shape, is_number, shape_in, text_seen, value_seen}
+use Rattle.demangle_lines.proofs.Shapes.{external_is, present_is, set_is, word_is, bare_param, bare_primary, bare_other}
+use Rattle.demangle_lines.proofs.Lists.{any_first, any_here, any_next, any_over}
+use Rattle.demangle_lines.proofs.tests.is_bare_tree.Goals as goal
+
+pub returns-then-is_tag : goal.returns-then-is_tag
+returns-then-is_tag g c = bare_param (world_of (g.B.Below.at c.args.below).refers) (g.T.InnerNode.tree c.args.tree) ((world_of (g.B.Below.at c.args.below).refers).look (g.T.InnerNode.tree c.args.tree)) (sym (c.is_tag.ensures ∙ ap (is_tag 118) c.shape_at-shape.ensures) ∙ c.if-is_tag.true)
+
+pub returns-then-is_tag-2 : goal.returns-then-is_tag-2
+returns-then-is_tag-2 g c = c.is_tag-then-is_tag-2.ensures ∙ (ap (is_tag 144) c.shape_of.ensures ∙ (external_is (see (world_of (g.B.Below.at c.args.below).refers) (option_map g.T.InnerNode.tree c.part_at.result)) ∙ (ap (λ y. is_external (tag_seen (see (world_of (g.B.Below.at c.args.below).refers) y))) c.part_at.ensures ∙ bare_primary (world_of (g.B.Below.at c.args.below).refers) (g.T.InnerNode.tree c.args.tree) ((world_of (g.B.Below.at c.args.below).refers).look (g.T.InnerNode.tree c.args.tree)) (sym (c.is_tag-2.ensures ∙ ap (is_tag 130) c.shape_at-shape.ensures) ∙ c.if-is_tag-2.true))))
+
+pub returns : goal.returns
+returns g c = bare_other (world_of (g.B.Below.at c.args.below).refers) (g.T.InnerNode.tree c.args.tree) ((world_of (g.B.Below.at c.args.below).refers).look (g.T.InnerNode.tree c.args.tree)) (sym (c.is_tag.ensures ∙ ap (is_tag 118) c.shape_at-shape.ensures) ∙ c.if-is_tag.false) (sym (c.is_tag-2.ensures ∙ ap (is_tag 130) c.shape_at-shape.ensures) ∙ c.if-is_tag-2.false)
