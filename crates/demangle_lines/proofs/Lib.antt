@@ -4,3 +4,9 @@ pub mod Signs
 pub mod Suffixes
 pub mod Shapes
 pub mod Lists
+pub mod Counts
+pub mod Tops
+pub mod Turns
+pub mod Numbers
+pub mod Entries
+pub mod LeafNames

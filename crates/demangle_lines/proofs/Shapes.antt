@@ -79,6 +79,14 @@ no_ordinal none plus (bytes bs) e = refl
 no_ordinal none plus (flag b) e = refl
 no_ordinal none plus (word t k) e = refl
 
+pub no_bytes : (v : Seen Core) → (shape_in v ≡ of_shape.Bytes → ⊥) → bytes_seen v ≡ []
+no_bytes (bytes bs) e = absurd (e refl)
+no_bytes nothing e = refl
+no_bytes (node t xs) e = refl
+no_bytes (number i) e = refl
+no_bytes (flag b) e = refl
+no_bytes (word t k) e = refl
+
 -- ---- tests
 present_code : (t : Tag) → (code t == 0) ≡ is_present t
 present_code Tag.Present = refl

@@ -3,3 +3,4 @@ pub mod ScopeOf
 pub mod PlaceAt
 pub mod Pieces
 pub mod Does
+pub mod Entries

@@ -12,6 +12,7 @@ use Rattle.demangle_lines.specs.declared.scope.Scope.{Held-Scope-previous, None'
 
 -- an entry, by what it is
 abbrev pub entry_in : Kind → Core → ℕ → spec.Scope Core → spec.Scope Core
+entry_in of_kind.End x k sc = []
 entry_in of_kind.Nothing x k sc = sc
 entry_in of_kind.Leaf x k sc = with_leaf (Some x) sc
 entry_in of_kind.Arguments x k sc = with_args (Some x) sc

@@ -1,7 +1,7 @@
 //! What lies below a line.
 
-ghost use Rattle.std.specs.Prelude.{◌≡◌, MatchOption};
-ghost use Rattle.demangle_printing.specs.Act.{call, done, line};
+ghost use Rattle.std.specs.Prelude.{◌≡◌, [], MatchOption};
+ghost use Rattle.demangle_printing.specs.Act.{call, done, leaf, line};
 ghost use Rattle.demangle_meets.specs.Calls.{Enters, Stops};
 ghost use Rattle.demangle_meets.specs.Meets.{Inner, Meets};
 ghost use Rattle.demangle_meets.specs.Place.{Place};
@@ -12,7 +12,8 @@ use crate::scope::Scope;
 use crate::tree::Tree;
 use demangle_context::{Context, DemangleWrite};
 
-/// The lines through which all recursion goes, at a place: that of a tree, and what of an item stands behind. All that
+/// The lines through which all recursion goes, at a place: that of a tree, an unnamed type
+/// as a leaf name, and what of an item stands behind. All that
 /// a line calls besides is called by name.
 pub trait Below<'s, T: Tree<S>, S: 's, W: DemangleWrite>: Copy {
     ghost at: { Self → Place };
@@ -44,6 +45,12 @@ pub trait Below<'s, T: Tree<S>, S: 's, W: DemangleWrite>: Copy {
         requires { can self }
         ensures { Meets (at self) (page T.tree T.table W.seen ctx.old) (page T.tree T.table W.seen ctx.new)
             (call (line (T.tree tree)) (lent_scope T.tree scope.entry) done) };
+
+    /// An unnamed type as a leaf name, with nothing in scope.
+    fn unnamed_leaf(self, tree: T, ctx: &mut Context<'s, '_, T, S, W>)
+        requires { can self }
+        ensures { Meets (at self) (page T.tree T.table W.seen ctx.old) (page T.tree T.table W.seen ctx.new)
+            (call (leaf (T.tree tree)) [] done) };
 
     /// What of an item stands behind.
     fn behind(self, item: T, scope: Option<&Scope<'_, T>>, ctx: &mut Context<'s, '_, T, S, W>)

@@ -5,11 +5,16 @@
 mod at;
 mod below;
 mod bytes;
+mod items;
+mod leaves;
 mod level;
+mod lookups;
 mod parts;
 mod scope;
+mod scopes;
 mod tags;
 mod tests;
+mod texts;
 mod tree;
 
 pub use below::Below;

@@ -1,7 +1,7 @@
 //! Scopes: what a leaf name and a template parameter refer to. The newest entry is first, and each entry stands on the
 //! stack of the line that made it.
 
-ghost use Rattle.std.specs.Prelude.{◌≡◌, option_map, Some};
+ghost use Rattle.std.specs.Prelude.{◌≡◌, [], option_map};
 ghost use Rattle.demangle_printing.specs.Scope.{in_member, with_args, with_leaf};
 ghost use Rattle.demangle_printing.specs.Trees.{began_at};
 ghost use Rattle.demangle_lines.specs.ScopeOf.{lent_scope, stack_scope};
@@ -11,6 +11,8 @@ use demangle_context::InnerNode;
 /// What an entry of a scope is.
 #[derive(Clone, Copy)]
 pub(crate) enum Kind {
+    /// None, and none behind it.
+    End,
     /// None: nothing was found.
     Nothing,
     /// A leaf name.
@@ -97,15 +99,18 @@ pub fn member<'prev, T: InnerNode>(
     }
 }
 
-/// An empty scope. `other` is any tree.
+/// An empty scope, whatever `scope` is. `other` is any tree.
 #[inline(always)]
-pub fn empty<'prev, T: InnerNode>(other: T) -> Scope<'prev, T>
-    ensures { stack_scope T.tree result ≡ lent_scope T.tree None }
+pub fn empty<'prev, T: InnerNode>(
+    scope: Option<&'prev Scope<'prev, T>>,
+    other: T,
+) -> Scope<'prev, T>
+    ensures { stack_scope T.tree result ≡ [] }
 {
     Scope {
-        kind: Kind::Nothing,
+        kind: Kind::End,
         tree: other,
         index: 0,
-        previous: None,
+        previous: scope,
     }
 }
