@@ -10,3 +10,4 @@ pub mod Turns
 pub mod Numbers
 pub mod Entries
 pub mod LeafNames
+pub mod Doing
