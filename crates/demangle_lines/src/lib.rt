@@ -38,6 +38,7 @@ pub use tests::{
     spells,
 };
 pub use texts::{
-    inner_spelled, magnitude, name, ordinal, resource, spelled, spelled_itself, suffix,
+    inner_ordinal, inner_spelled, magnitude, name, ordinal, resource, spelled, spelled_itself,
+    suffix,
 };
 pub use tree::{Number, Shape, Tree};

@@ -151,6 +151,25 @@ ensures { Meets (B.at below) (page T.tree T.table W.seen ctx.old) (page T.tree T
     bytes::bytes_text(bytes::without_sign(found), ctx);
 }
 
+/// The sum of a number and a constant, in decimal; `none` where there is no number.
+fn ordinal_of<'s, T: Tree<S>, S: 's, W: DemangleWrite, B: Below<'s, T, S, W>>(
+    below: B,
+    found: Option<T>,
+    none: u8,
+    plus: u8,
+    ctx: &mut Context<'s, '_, T, S, W>,
+)
+ensures { Steps (page T.tree T.table W.seen ctx.old) (page T.tree T.table W.seen ctx.new) (written (ordinal_of none
+        plus (see (world_of (B.at below).refers) (option_map T.tree found)))) }
+{
+    if is_number(shape_of(below, found)) {
+        write_sum(number_of(below, found), plus, ctx);
+    } else {
+        let mut room = Decimal::new();
+        ctx.text(room.unsigned(none as u128));
+    }
+}
+
 /// The sum of a part that is a number and a constant, in decimal; `none` where it is no number.
 pub fn ordinal<'s, T: Tree<S>, S: 's, W: DemangleWrite, B: Below<'s, T, S, W>>(
     below: B,
@@ -164,13 +183,25 @@ ensures { Steps (page T.tree T.table W.seen ctx.old) (page T.tree T.table W.seen
         plus (see (world_of (B.at below).refers) (find (world_of (B.at below).refers) (Some (T.tree tree)) (number ∷
         []))))) }
 {
-    let found = part_at(below, tree, number);
-    if is_number(shape_of(below, found)) {
-        write_sum(number_of(below, found), plus, ctx);
-    } else {
-        let mut room = Decimal::new();
-        ctx.text(room.unsigned(none as u128));
-    }
+    ordinal_of(below, part_at(below, tree, number), none, plus, ctx);
+}
+
+/// The same of a part of a part.
+pub fn inner_ordinal<'s, T: Tree<S>, S: 's, W: DemangleWrite, B: Below<'s, T, S, W>>(
+    below: B,
+    tree: T,
+    first: usize,
+    second: usize,
+    none: u8,
+    plus: u8,
+    ctx: &mut Context<'s, '_, T, S, W>,
+)
+ensures { Steps (page T.tree T.table W.seen ctx.old) (page T.tree T.table W.seen ctx.new) (written (ordinal_of none
+        plus (see (world_of (B.at below).refers) (find (world_of (B.at below).refers) (Some (T.tree tree)) (first ∷
+        second ∷ []))))) }
+{
+    let found = part_of_part(below, tree, first, second);
+    ordinal_of(below, found, none, plus, ctx);
 }
 
 /// A name, which is kept as the last source name.

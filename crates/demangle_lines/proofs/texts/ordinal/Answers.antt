@@ -28,8 +28,5 @@ use mir.Syntax.{w64}
 use mir.Val.{SFits}
 use Rattle.demangle_lines.proofs.texts.ordinal.Goals as goal
 
-pub returns-then-is_number : goal.returns-then-is_number
-returns-then-is_number g c = text_as c.write_sum.ensures (ap (λ z. signed_decimal (z +ℤ pos c.args.plus)) c.number_of.ensures ∙ (ordinal_number c.args.none c.args.plus (see (world_of (g.B.Below.at c.args.below).refers) (option_map g.T.InnerNode.tree c.part_at-found.result)) (sym (c.is_number.ensures ∙ ap is_number c.shape_of.ensures) ∙ c.if-is_number.true) ∙ ap (λ y. ordinal_of c.args.none c.args.plus (see (world_of (g.B.Below.at c.args.below).refers) y)) c.part_at-found.ensures))
-
-pub returns-else-is_number : goal.returns-else-is_number
-returns-else-is_number g c = text_as (rw c.unsigned.ensures at c.text.ensures) (no_ordinal c.args.none c.args.plus (see (world_of (g.B.Below.at c.args.below).refers) (option_map g.T.InnerNode.tree c.part_at-found.result)) (sym (c.is_number.ensures ∙ ap is_number c.shape_of.ensures) ∙ c.if-is_number.false) ∙ ap (λ y. ordinal_of c.args.none c.args.plus (see (world_of (g.B.Below.at c.args.below).refers) y)) c.part_at-found.ensures)
+pub returns : goal.returns
+returns g c = text_as c.ordinal_of.ensures (ap (λ y. ordinal_of c.args.none c.args.plus (see (world_of (g.B.Below.at c.args.below).refers) y)) c.part_at.ensures)

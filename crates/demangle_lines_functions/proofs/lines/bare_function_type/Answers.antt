@@ -1,0 +1,9 @@
+use Rattle.demangle_printing.specs.Lines.{line_steps}
+use Rattle.demangle_meets.proofs.Acts.{meets_block, meets_done}
+use Rattle.demangle_meets.proofs.Around.{meets_held}
+use Rattle.demangle_lines_functions.proofs.lines.bare_function_type.Goals as goal
+
+pub returns : goal.returns
+unfolding line_steps
+returns g c = record { meets = meets_held c.hold.ensures (meets_block c.inner_part.ensures meets_done)
+    c.close_spaced.ensures meets_done }

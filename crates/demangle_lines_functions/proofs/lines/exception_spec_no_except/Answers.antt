@@ -1,0 +1,7 @@
+use Rattle.demangle_printing.specs.Lines.{line_steps}
+use Rattle.demangle_meets.proofs.Acts.{meets_done, meets_text}
+use Rattle.demangle_lines_functions.proofs.lines.exception_spec_no_except.Goals as goal
+
+pub returns : goal.returns
+unfolding line_steps
+returns g c = record { meets = meets_text c.text.ensures meets_done }

@@ -1,0 +1,11 @@
+use Rattle.demangle_printing.specs.Lines.{line_steps}
+use Rattle.demangle_meets.proofs.Acts.{meets_block, meets_done, meets_text}
+use Rattle.demangle_meets.proofs.Around.{meets_fence}
+use Rattle.demangle_lines.proofs.Doing.{meets_params}
+use Rattle.demangle_lines_names.proofs.lines.global_ctor_dtor_dtor.Goals as goal
+
+pub returns : goal.returns
+unfolding line_steps
+returns g c = record { meets = meets_fence c.fence-items.ensures (meets_params c.is_on-before.ensures c.turn.ensures
+    (meets_text c.text.ensures (meets_block c.part.ensures meets_done)) c.turn-2.ensures meets_done) c.unfence.ensures
+    meets_done }

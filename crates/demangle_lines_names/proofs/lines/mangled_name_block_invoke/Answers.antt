@@ -1,0 +1,7 @@
+use Rattle.demangle_printing.specs.Lines.{line_steps}
+use Rattle.demangle_meets.proofs.Acts.{meets_block, meets_done, meets_text}
+use Rattle.demangle_lines_names.proofs.lines.mangled_name_block_invoke.Goals as goal
+
+pub returns : goal.returns
+unfolding line_steps
+returns g c = record { meets = meets_text c.text.ensures (meets_block c.part.ensures meets_done) }

@@ -1,0 +1,7 @@
+use Rattle.demangle_printing.specs.Lines.{line_steps}
+use Rattle.demangle_meets.proofs.Acts.{meets_block, meets_done}
+use Rattle.demangle_lines_types.proofs.lines.type_node_template_template.Goals as goal
+
+pub returns : goal.returns
+unfolding line_steps
+returns g c = record { meets = meets_block c.part.ensures (meets_block c.part-2.ensures meets_done) }
