@@ -19,6 +19,7 @@ PARTS = {("line", 0): "itself", ("line", 1): "part", ("line", 2): "inner_part", 
          ("leaf_of", 2): "inner_leaf"}
 TEXTS = {("spelled", 0): "spelled_itself", ("spelled", 1): "spelled", ("spelled", 2): "inner_spelled",
          ("magnitude", 1): "magnitude"}
+ORDINALS = {1: "ordinal", 2: "inner_ordinal"}
 SCOPES = {("with_leaf", 1): "with_leaf_name", ("with_these", 1): "with_these", ("with_these", 2): "with_inner_these"}
 
 
@@ -97,6 +98,19 @@ class Crate:
         self.add("choices", every, line_code("fn", every, "Steps for a tree of a list.", done, code),
                  [("returns", "", "record { meets = %s }" % term)])
         self.add("choices", name, line_terms.each_code(name, every, spec), *line_terms.each_proof(every, spec))
+        return name
+
+    def under(self, steps):
+        return self.once(("under", steps), lambda: self.new_under(steps))
+
+    def new_under(self, steps):
+        name, body = self.fresh("under"), Body(self)
+        spec = name + "_steps"
+        self.spec(spec, "Step", line_terms.steps(steps))
+        code, term = body.steps(steps, "    ", "")
+        done = "Runs (B.at below) %s (T.tree tree) %s %s" % (PAGES, SCOPE, spec)
+        self.add("choices", name, line_code("fn", name, "Steps in a scope of their own.", done, code),
+                 [("returns", "", "record { meets = %s }" % term)])
         return name
 
     # ---- lines
@@ -207,8 +221,8 @@ class Body:
         if kind == "quoted":
             return self.then(["ctx.text(%s);" % quoted(what[0])], ["meets_text", self.call("text", suffix)], rest, indent, suffix)
         if kind == "ordinal":
-            arguments = ["below", "tree", *path_of(what[0], 1), str(what[1]), str(what[2]), "ctx"]
-            return self.one_call("ordinal", arguments, "meets_text", rest, indent, suffix)
+            arguments = ["below", "tree", *path_of(what[0]), str(what[1]), str(what[2]), "ctx"]
+            return self.one_call(ORDINALS[len(what[0])], arguments, "meets_text", rest, indent, suffix)
         name = TEXTS[kind, len(what[0])]
         return self.one_call(name, ["below", "tree", *path_of(what[0]), "ctx"], "meets_block", rest, indent, suffix)
 
@@ -324,8 +338,16 @@ class Body:
             return ITS_SCOPE
         return "(stack_scope g.T.InnerNode.tree %s)" % self.stack
 
+    def in_scope(self, function, step, path, inner, rest, indent, suffix):
+        """Steps with what was found in scope. A scope in a scope is made in a function of its own."""
+        if self.scope == "scope":
+            return self.scoped(function, path, inner, rest, indent, suffix)
+        if rest:
+            raise Cannot("a scope in a scope, and steps behind it")
+        name = self.crate.under([step])
+        return "%s%s(below, tree, %s, ctx);\n" % (indent, name, self.scope), self.call(name, suffix) + ".meets"
+
     def scoped(self, function, path, inner, rest, indent, suffix):
-        """Steps with what was found in scope."""
         self.scopes += 1
         variable = "inner" if self.scopes == 1 else "inner_%d" % self.scopes
         line = "let %s = %s(below, tree, %s, %s);" % (variable, function, ", ".join(path_of(path)), self.scope)
@@ -339,11 +361,11 @@ class Body:
         return indent + line + "\n" + code + more, joined("meets_found", family, found, term, rest_term)
 
     def do_with_leaf(self, step, rest, indent, suffix):
-        return self.scoped(SCOPES[step[0], len(step[1])], step[1], step[2], rest, indent, suffix)
+        return self.in_scope(SCOPES[step[0], len(step[1])], step, step[1], step[2], rest, indent, suffix)
 
     do_with_these = do_with_leaf
 
     def do_with_args(self, step, rest, indent, suffix):
         name = "with_%s_arguments" % SORTS[name_of(step[1])]
         path_of(step[2], 1)
-        return self.scoped(name, step[2], step[3], rest, indent, suffix)
+        return self.in_scope(name, step, step[2], step[3], rest, indent, suffix)

@@ -120,9 +120,17 @@ def wrapped(text, indent, width=WIDTH):
     return "\n".join(lines + [line])
 
 
+def first_line(head, name):
+    """The name with its type parameters, in lines of their own where they are too long for one."""
+    line = "%s %s%s(" % (head, name, GENERICS)
+    if len(line) < 100:
+        return [line]
+    return ["%s %s<" % (head, name)] + ["    %s," % part for part in re.split(r", (?=[TSWB]:)", GENERICS[1:-1])] + [">("]
+
+
 def function(head, name, doc, parameters, result, clauses, body):
     lines = ["/// " + line for line in wrapped(doc, "", 114).split("\n")]
-    lines.append("%s %s%s(" % (head, name, GENERICS))
+    lines += first_line(head, name)
     lines += ["    %s," % parameter for parameter in parameters]
     lines.append(")" + result)
     lines += ["    " + wrapped(clause, "        ", WIDTH - 4) for clause in clauses]

@@ -43,7 +43,7 @@ PROOFS = {
 CALLS = {
     "demangle_context": "Context DemangleNodeType DemangleWrite PrintFlag",
     "demangle_lines": "Below Scope Tree argument close close_spaced count_of entry_of has_prefix_arguments "
-    "has_type_arguments hold inner_leaf inner_part inner_spelled innermost_part is_anonymous is_inner_word "
+    "has_type_arguments hold inner_leaf inner_ordinal inner_part inner_spelled innermost_part is_anonymous is_inner_word "
     "is_innermost_word is_negative is_qualified is_special is_there is_true is_word itself leaf list magnitude members "
     "name need_leaf operand ordinal part part_at resource spelled spelled_itself spells suffix taken with_inner_these "
     "with_leaf_name with_prefix_arguments with_these with_type_arguments",
@@ -121,7 +121,7 @@ def proof_uses(crate, text):
     found = uses(PROOFS, text, "use ", "")
     if KIND in text:
         found += "use Rattle.demangle_printing.specs.State as kind\n"
-    specs = sorted(set(re.findall(r"\b(?:choice|each|condition)_\d+_\w+", text)))
+    specs = sorted(set(re.findall(r"\b(?:choice|each|condition|under)_\d+_\w+", text)))
     found += braces("use Rattle.%s.specs.Choices" % crate, [name for name in specs if has(name, text)], "")
     return found
 

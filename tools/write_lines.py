@@ -10,7 +10,9 @@ it says which files aren't what would be written, and fails where there is one.
 import os
 import re
 import shutil
+import subprocess
 import sys
+import tempfile
 
 import antt
 import line_functions
@@ -154,11 +156,26 @@ def is_written(file):
     return bool(re.match(r"(src/(lib|(lines|choices)\w*)\.rt|specs/(Choices|Lib)\.antt|proofs/(Lib.antt|(lines|choices)\w*/.*))$", file))
 
 
-def differs(path, text):
-    if not os.path.exists(path):
-        return True
+def formatted(name, files):
+    """The same files as the kit's formatter writes them."""
+    with tempfile.TemporaryDirectory() as top:
+        folder = os.path.join(top, "crates", name)
+        write(folder, files, [])
+        with open(os.path.join(top, "crates.txt"), "w") as target:
+            target.write("%s:\n" % name)
+        done = subprocess.run(["rt", "fmt"], cwd=folder, capture_output=True, text=True)
+        if done.returncode:
+            sys.exit("rt fmt: " + done.stdout + done.stderr)
+        return {path: read(os.path.join(folder, path)) for path in files}
+
+
+def read(path):
     with open(path) as source:
-        return source.read() != text
+        return source.read()
+
+
+def differs(path, text):
+    return not os.path.exists(path) or read(path) != text
 
 
 def main(arguments):
@@ -167,7 +184,7 @@ def main(arguments):
     data, known, stale = lines.Lines(), docs(), 0
     for name in names:
         files, missing, made = crate_of(data, name, known)
-        files = {path: text for path, text in files.items() if is_written(path)}
+        files = formatted(name, {path: text for path, text in files.items() if is_written(path)})
         folder = os.path.join(antt.CRATES, name)
         changed = [path for path, text in files.items() if differs(os.path.join(folder, path), text)]
         gone = [path for path in written_files(name) if path not in files]

@@ -12,6 +12,16 @@ choice_1_yes = (Step.say (Piece.quoted (codes "auto:")) (Step.say (Piece.ordinal
 abbrev pub choice_1_no : Step
 choice_1_no = (Step.argument (0 ∷ []) Step.done)
 
+abbrev pub choice_2_if : Test
+choice_2_if = (Test.there (2 ∷ []))
+
+abbrev pub choice_2_yes : Step
+choice_2_yes = (Step.say (Piece.quoted (codes "{parm#")) (Step.say (Piece.ordinal (2 ∷ 0 ∷ []) 0 1) (Step.say
+    (Piece.quoted (codes "}")) Step.done)))
+
+abbrev pub choice_2_no : Step
+choice_2_no = (Step.say (Piece.quoted (codes "this")) Step.done)
+
 abbrev pub choice_3_if : Test
 choice_3_if = (Test.last_is 60)
 

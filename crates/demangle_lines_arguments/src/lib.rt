@@ -4,4 +4,4 @@
 mod choices;
 mod lines;
 
-pub use lines::{template_arg_arg_pack, template_args, template_param};
+pub use lines::{function_param, template_arg_arg_pack, template_args, template_param};

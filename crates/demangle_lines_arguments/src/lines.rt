@@ -6,7 +6,7 @@ ghost use Rattle.demangle_context.specs.PageOf.{page};
 ghost use Rattle.demangle_lines.specs.Does.{Runs};
 ghost use Rattle.demangle_lines.specs.ScopeOf.{lent_scope};
 
-use crate::choices::{choice_1, choice_3, choice_4};
+use crate::choices::{choice_1, choice_2, choice_3, choice_4};
 use demangle_context::{Context, DemangleNodeType, DemangleWrite, PrintFlag};
 use demangle_lines::{Below, Scope, Tree, list, members};
 
@@ -24,6 +24,22 @@ pub fn template_param<'s, T: Tree<S>, S: 's, W: DemangleWrite, B: Below<'s, T, S
     let told = ctx.begin_node(DemangleNodeType::TemplateParam);
     choice_1(below, tree, scope, ctx);
     ctx.end_node(told);
+}
+
+/// The line of `FunctionParam`: a parameter of the function that is declared, or of one around it: the number behind
+/// `fL` as it is written, one less than the scopes between, and 0 for `fp`; its qualifiers; and its position, where
+/// `None` is `this`. ABI section 5.1.5.9.
+pub fn function_param<'s, T: Tree<S>, S: 's, W: DemangleWrite, B: Below<'s, T, S, W>>(
+    below: B,
+    tree: T,
+    scope: Option<&Scope<'_, T>>,
+    ctx: &mut Context<'s, '_, T, S, W>,
+)
+    requires { B.can below }
+    ensures { Runs (B.at below) (page T.tree T.table W.seen ctx.old) (page T.tree T.table W.seen ctx.new) (T.tree
+        tree) (lent_scope T.tree scope.entry) (line_steps Tag.FunctionParam) }
+{
+    choice_2(below, tree, scope, ctx);
 }
 
 /// The line of `TemplateArgs`: the arguments of a template, and their place: the index of the `I` before them, which

@@ -435,12 +435,13 @@ pub fn expression_global_delete<'s, T: Tree<S>, S: 's, W: DemangleWrite, B: Belo
 }
 
 /// The line of `ExpressionGlobalDeleteArray`: `::delete[] g`: `gsda1g`. ABI section 5.1.6.
-pub fn expression_global_delete_array<'s, T: Tree<S>, S: 's, W: DemangleWrite, B: Below<'s, T, S, W>>(
-    below: B,
-    tree: T,
-    scope: Option<&Scope<'_, T>>,
-    ctx: &mut Context<'s, '_, T, S, W>,
-)
+pub fn expression_global_delete_array<
+    's,
+    T: Tree<S>,
+    S: 's,
+    W: DemangleWrite,
+    B: Below<'s, T, S, W>,
+>(below: B, tree: T, scope: Option<&Scope<'_, T>>, ctx: &mut Context<'s, '_, T, S, W>)
     requires { B.can below }
     ensures { Runs (B.at below) (page T.tree T.table W.seen ctx.old) (page T.tree T.table W.seen ctx.new) (T.tree
         tree) (lent_scope T.tree scope.entry) (line_steps Tag.ExpressionGlobalDeleteArray) }
@@ -516,12 +517,13 @@ pub fn expression_noexcept<'s, T: Tree<S>, S: 's, W: DemangleWrite, B: Below<'s,
 
 /// The line of `ExpressionSizeofTemplatePack`: how many arguments a pack of template parameters has, `sizeof...(T)`:
 /// `sZT_`. ABI section 5.1.6.
-pub fn expression_sizeof_template_pack<'s, T: Tree<S>, S: 's, W: DemangleWrite, B: Below<'s, T, S, W>>(
-    below: B,
-    tree: T,
-    scope: Option<&Scope<'_, T>>,
-    ctx: &mut Context<'s, '_, T, S, W>,
-)
+pub fn expression_sizeof_template_pack<
+    's,
+    T: Tree<S>,
+    S: 's,
+    W: DemangleWrite,
+    B: Below<'s, T, S, W>,
+>(below: B, tree: T, scope: Option<&Scope<'_, T>>, ctx: &mut Context<'s, '_, T, S, W>)
     requires { B.can below }
     ensures { Runs (B.at below) (page T.tree T.table W.seen ctx.old) (page T.tree T.table W.seen ctx.new) (T.tree
         tree) (lent_scope T.tree scope.entry) (line_steps Tag.ExpressionSizeofTemplatePack) }
@@ -533,12 +535,13 @@ pub fn expression_sizeof_template_pack<'s, T: Tree<S>, S: 's, W: DemangleWrite, 
 
 /// The line of `ExpressionSizeofCapturedTemplatePack`: how many arguments a pack has that was handed to an alias
 /// template, `sizeof...(int, char)`: `sPicE`. ABI section 5.1.6.
-pub fn expression_sizeof_captured_template_pack<'s, T: Tree<S>, S: 's, W: DemangleWrite, B: Below<'s, T, S, W>>(
-    below: B,
-    tree: T,
-    scope: Option<&Scope<'_, T>>,
-    ctx: &mut Context<'s, '_, T, S, W>,
-)
+pub fn expression_sizeof_captured_template_pack<
+    's,
+    T: Tree<S>,
+    S: 's,
+    W: DemangleWrite,
+    B: Below<'s, T, S, W>,
+>(below: B, tree: T, scope: Option<&Scope<'_, T>>, ctx: &mut Context<'s, '_, T, S, W>)
     requires { B.can below }
     ensures { Runs (B.at below) (page T.tree T.table W.seen ctx.old) (page T.tree T.table W.seen ctx.new) (T.tree
         tree) (lent_scope T.tree scope.entry) (line_steps Tag.ExpressionSizeofCapturedTemplatePack) }

@@ -6,7 +6,7 @@ ghost use Rattle.demangle_context.specs.PageOf.{page};
 ghost use Rattle.demangle_lines.specs.Does.{Runs};
 ghost use Rattle.demangle_lines.specs.ScopeOf.{lent_scope};
 
-use crate::choices::{choice_14, choice_5, each_1};
+use crate::choices::{choice_5, choice_14, each_1};
 use demangle_context::{Context, DemangleWrite, PrintFlag};
 use demangle_lines::{Below, Scope, Tree, operand, part, part_at, spelled};
 
@@ -155,12 +155,13 @@ pub fn unresolved_name_nested2<'s, T: Tree<S>, S: 's, W: DemangleWrite, B: Below
 }
 
 /// The line of `UnresolvedNameGlobalNested2`: `::A::x`: `gssr1AE1x`. ABI section 5.1.6.
-pub fn unresolved_name_global_nested2<'s, T: Tree<S>, S: 's, W: DemangleWrite, B: Below<'s, T, S, W>>(
-    below: B,
-    tree: T,
-    scope: Option<&Scope<'_, T>>,
-    ctx: &mut Context<'s, '_, T, S, W>,
-)
+pub fn unresolved_name_global_nested2<
+    's,
+    T: Tree<S>,
+    S: 's,
+    W: DemangleWrite,
+    B: Below<'s, T, S, W>,
+>(below: B, tree: T, scope: Option<&Scope<'_, T>>, ctx: &mut Context<'s, '_, T, S, W>)
     requires { B.can below }
     ensures { Runs (B.at below) (page T.tree T.table W.seen ctx.old) (page T.tree T.table W.seen ctx.new) (T.tree
         tree) (lent_scope T.tree scope.entry) (line_steps Tag.UnresolvedNameGlobalNested2) }

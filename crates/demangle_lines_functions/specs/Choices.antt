@@ -4,6 +4,13 @@ use Rattle.demangle_core.specs.Lookups.{as_prefix}
 use Rattle.demangle_printing.specs.Step.{Piece, Test, Step}
 use Rattle.demangle_printing.specs.State as kind
 
+abbrev pub under_1_steps : Step
+under_1_steps = (Step.with_args as_prefix (0 ∷ []) (Step.block (Step.block (Step.test (Test.both (Test.has_args
+    as_prefix (0 ∷ [])) (Test.both (Test.flag kind.returns) (Test.isnt (Test.special (0 ∷ []))))) (Step.line (1 ∷ 0 ∷
+    0 ∷ []) (Step.say (Piece.quoted (codes " ")) Step.done)) Step.done Step.done) (Step.block (Step.test (Test.flag
+    kind.params) (Step.held [] false (Step.line (0 ∷ []) Step.done) Step.done) (Step.line (0 ∷ []) Step.done)
+    Step.done) Step.done)) Step.done) Step.done)
+
 abbrev pub condition_1_is : Test
 condition_1_is = (Test.both (Test.has_args as_prefix (0 ∷ [])) (Test.both (Test.flag kind.returns) (Test.isnt
     (Test.special (0 ∷ [])))))

@@ -1,17 +1,17 @@
 //! Steps of which the lines of functions and their types are made.
 
 ghost use Rattle.demangle_context.specs.PageOf.{page};
-ghost use Rattle.demangle_lines.specs.Does.{Chooses, Holds};
+ghost use Rattle.demangle_lines.specs.Does.{Chooses, Holds, Runs};
 ghost use Rattle.demangle_lines.specs.ScopeOf.{lent_scope};
-ghost use Rattle.demangle_lines_functions.specs.Choices.{condition_1_is, condition_2_is, condition_3_is};
-ghost use Rattle.demangle_lines_functions.specs.Choices.{choice_1_if, choice_1_yes, choice_1_no, choice_2_if};
-ghost use Rattle.demangle_lines_functions.specs.Choices.{choice_2_yes, choice_2_no, choice_3_if, choice_3_yes};
-ghost use Rattle.demangle_lines_functions.specs.Choices.{choice_3_no};
+ghost use Rattle.demangle_lines_functions.specs.Choices.{under_1_steps, condition_1_is, condition_2_is};
+ghost use Rattle.demangle_lines_functions.specs.Choices.{condition_3_is, choice_1_if, choice_1_yes, choice_1_no};
+ghost use Rattle.demangle_lines_functions.specs.Choices.{choice_2_if, choice_2_yes, choice_2_no, choice_3_if};
+ghost use Rattle.demangle_lines_functions.specs.Choices.{choice_3_yes, choice_3_no};
 
 use demangle_context::{Context, DemangleWrite, PrintFlag};
 use demangle_lines::{
     Below, Scope, Tree, close, has_prefix_arguments, hold, innermost_part, is_special, is_there,
-    part,
+    part, with_prefix_arguments,
 };
 
 /// A condition.
@@ -90,6 +90,22 @@ pub(crate) fn choice_2<'s, T: Tree<S>, S: 's, W: DemangleWrite, B: Below<'s, T, 
     } else {
         part(below, tree, 0, scope, ctx);
     }
+}
+
+/// Steps in a scope of their own.
+pub(crate) fn under_1<'s, T: Tree<S>, S: 's, W: DemangleWrite, B: Below<'s, T, S, W>>(
+    below: B,
+    tree: T,
+    scope: Option<&Scope<'_, T>>,
+    ctx: &mut Context<'s, '_, T, S, W>,
+)
+    requires { B.can below }
+    ensures { Runs (B.at below) (page T.tree T.table W.seen ctx.old) (page T.tree T.table W.seen ctx.new) (T.tree
+        tree) (lent_scope T.tree scope.entry) under_1_steps }
+{
+    let inner = with_prefix_arguments(below, tree, 0, scope);
+    choice_1(below, tree, Some(&inner), ctx);
+    choice_2(below, tree, Some(&inner), ctx);
 }
 
 /// Steps that a condition chooses.

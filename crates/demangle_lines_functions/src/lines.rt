@@ -6,11 +6,10 @@ ghost use Rattle.demangle_context.specs.PageOf.{page};
 ghost use Rattle.demangle_lines.specs.Does.{Runs};
 ghost use Rattle.demangle_lines.specs.ScopeOf.{lent_scope};
 
-use crate::choices::{choice_1, choice_2, choice_3};
+use crate::choices::{choice_3, under_1};
 use demangle_context::{Context, DemangleWrite};
 use demangle_lines::{
     Below, Scope, Tree, close, close_spaced, hold, inner_part, part, with_leaf_name,
-    with_prefix_arguments,
 };
 
 /// The line of `EncodingFunction`: a function with its types, `f(int)`: `1fi`. ABI section 5.1.2.
@@ -26,9 +25,7 @@ pub fn encoding_function<'s, T: Tree<S>, S: 's, W: DemangleWrite, B: Below<'s, T
 {
     let items = ctx.fence();
     let inner = with_leaf_name(below, tree, 0, scope);
-    let inner_2 = with_prefix_arguments(below, tree, 0, Some(&inner));
-    choice_1(below, tree, Some(&inner_2), ctx);
-    choice_2(below, tree, Some(&inner_2), ctx);
+    under_1(below, tree, Some(&inner), ctx);
     ctx.unfence(items);
 }
 

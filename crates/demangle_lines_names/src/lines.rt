@@ -7,13 +7,13 @@ ghost use Rattle.demangle_lines.specs.Does.{Runs};
 ghost use Rattle.demangle_lines.specs.ScopeOf.{lent_scope};
 
 use crate::choices::{
-    choice_1, choice_11, choice_13, choice_14, choice_15, choice_2, choice_3, choice_4, choice_5,
-    choice_6, choice_7, choice_9, each_1, each_2,
+    choice_1, choice_2, choice_3, choice_4, choice_5, choice_6, choice_7, choice_9, choice_11,
+    choice_13, choice_14, choice_15, each_1, each_2,
 };
 use demangle_context::{Context, DemangleNodeType, DemangleWrite, PrintFlag};
 use demangle_lines::{
-    Below, Scope, Tree, leaf, list, need_leaf, part, part_at, spelled, suffix, taken, with_these,
-    with_type_arguments,
+    Below, Scope, Tree, inner_ordinal, leaf, list, need_leaf, part, part_at, spelled, suffix,
+    taken, with_these, with_type_arguments,
 };
 
 /// The line of `MangledNameEncoding`: a function, a variable or what the compiler makes of one, `f()`: `_Z1fv`; its
@@ -197,12 +197,13 @@ pub fn nested_name_template<'s, T: Tree<S>, S: 's, W: DemangleWrite, B: Below<'s
 }
 
 /// The line of `NestedNameUnqualifiedExplicitObject`: `A::f` of `f(this A)`: `NH1A1fE`. ABI section 5.1.2.
-pub fn nested_name_unqualified_explicit_object<'s, T: Tree<S>, S: 's, W: DemangleWrite, B: Below<'s, T, S, W>>(
-    below: B,
-    tree: T,
-    scope: Option<&Scope<'_, T>>,
-    ctx: &mut Context<'s, '_, T, S, W>,
-)
+pub fn nested_name_unqualified_explicit_object<
+    's,
+    T: Tree<S>,
+    S: 's,
+    W: DemangleWrite,
+    B: Below<'s, T, S, W>,
+>(below: B, tree: T, scope: Option<&Scope<'_, T>>, ctx: &mut Context<'s, '_, T, S, W>)
     requires { B.can below }
     ensures { Runs (B.at below) (page T.tree T.table W.seen ctx.old) (page T.tree T.table W.seen ctx.new) (T.tree
         tree) (lent_scope T.tree scope.entry) (line_steps Tag.NestedNameUnqualifiedExplicitObject) }
@@ -218,12 +219,13 @@ pub fn nested_name_unqualified_explicit_object<'s, T: Tree<S>, S: 's, W: Demangl
 }
 
 /// The line of `NestedNameTemplateExplicitObject`: `A::f<int>` of `f(this A)`: `NH1A1fIiEE`. ABI section 5.1.2.
-pub fn nested_name_template_explicit_object<'s, T: Tree<S>, S: 's, W: DemangleWrite, B: Below<'s, T, S, W>>(
-    below: B,
-    tree: T,
-    scope: Option<&Scope<'_, T>>,
-    ctx: &mut Context<'s, '_, T, S, W>,
-)
+pub fn nested_name_template_explicit_object<
+    's,
+    T: Tree<S>,
+    S: 's,
+    W: DemangleWrite,
+    B: Below<'s, T, S, W>,
+>(below: B, tree: T, scope: Option<&Scope<'_, T>>, ctx: &mut Context<'s, '_, T, S, W>)
     requires { B.can below }
     ensures { Runs (B.at below) (page T.tree T.table W.seen ctx.old) (page T.tree T.table W.seen ctx.new) (T.tree
         tree) (lent_scope T.tree scope.entry) (line_steps Tag.NestedNameTemplateExplicitObject) }
@@ -368,12 +370,13 @@ pub fn unqualified_name_ctor_dtor<'s, T: Tree<S>, S: 's, W: DemangleWrite, B: Be
 
 /// The line of `UnqualifiedNameLocalSourceName`: a name that only its own file sees, `static int x;`: `L1x`. ABI
 /// section 5.1.2.
-pub fn unqualified_name_local_source_name<'s, T: Tree<S>, S: 's, W: DemangleWrite, B: Below<'s, T, S, W>>(
-    below: B,
-    tree: T,
-    scope: Option<&Scope<'_, T>>,
-    ctx: &mut Context<'s, '_, T, S, W>,
-)
+pub fn unqualified_name_local_source_name<
+    's,
+    T: Tree<S>,
+    S: 's,
+    W: DemangleWrite,
+    B: Below<'s, T, S, W>,
+>(below: B, tree: T, scope: Option<&Scope<'_, T>>, ctx: &mut Context<'s, '_, T, S, W>)
     requires { B.can below }
     ensures { Runs (B.at below) (page T.tree T.table W.seen ctx.old) (page T.tree T.table W.seen ctx.new) (T.tree
         tree) (lent_scope T.tree scope.entry) (line_steps Tag.UnqualifiedNameLocalSourceName) }
@@ -427,6 +430,41 @@ pub fn identifier<'s, T: Tree<S>, S: 's, W: DemangleWrite, B: Below<'s, T, S, W>
         tree) (lent_scope T.tree scope.entry) (line_steps Tag.Identifier) }
 {
     choice_13(below, tree, scope, ctx);
+}
+
+/// The line of `UnnamedTypeName`: a type without a name, and its number where one is written. ABI section 5.1.7.
+pub fn unnamed_type_name<'s, T: Tree<S>, S: 's, W: DemangleWrite, B: Below<'s, T, S, W>>(
+    below: B,
+    tree: T,
+    scope: Option<&Scope<'_, T>>,
+    ctx: &mut Context<'s, '_, T, S, W>,
+)
+    requires { B.can below }
+    ensures { Runs (B.at below) (page T.tree T.table W.seen ctx.old) (page T.tree T.table W.seen ctx.new) (T.tree
+        tree) (lent_scope T.tree scope.entry) (line_steps Tag.UnnamedTypeName) }
+{
+    ctx.text("{unnamed type#");
+    inner_ordinal(below, tree, 0, 0, 1, 1, ctx);
+    ctx.text("}");
+}
+
+/// The line of `ClosureTypeName`: a closure: its parameter types, and its number where one is written,
+/// `{lambda(int)#1}`: `UliE_`. ABI section 5.1.8.
+pub fn closure_type_name<'s, T: Tree<S>, S: 's, W: DemangleWrite, B: Below<'s, T, S, W>>(
+    below: B,
+    tree: T,
+    scope: Option<&Scope<'_, T>>,
+    ctx: &mut Context<'s, '_, T, S, W>,
+)
+    requires { B.can below }
+    ensures { Runs (B.at below) (page T.tree T.table W.seen ctx.old) (page T.tree T.table W.seen ctx.new) (T.tree
+        tree) (lent_scope T.tree scope.entry) (line_steps Tag.ClosureTypeName) }
+{
+    ctx.text("{lambda(");
+    part(below, tree, 0, scope, ctx);
+    ctx.text(")#");
+    inner_ordinal(below, tree, 1, 0, 1, 2, ctx);
+    ctx.text("}");
 }
 
 /// The line of `LambdaSig`: the parameter types of a closure, none for `v`. ABI section 5.1.8.
@@ -495,12 +533,13 @@ pub fn operator_name_literal<'s, T: Tree<S>, S: 's, W: DemangleWrite, B: Below<'
 
 /// The line of `OperatorNameVendorExtension`: a compiler's own operator, with the number of its operands, from 0 to
 /// 9, `operator foo`: `v23foo`. ABI section 5.1.3.
-pub fn operator_name_vendor_extension<'s, T: Tree<S>, S: 's, W: DemangleWrite, B: Below<'s, T, S, W>>(
-    below: B,
-    tree: T,
-    scope: Option<&Scope<'_, T>>,
-    ctx: &mut Context<'s, '_, T, S, W>,
-)
+pub fn operator_name_vendor_extension<
+    's,
+    T: Tree<S>,
+    S: 's,
+    W: DemangleWrite,
+    B: Below<'s, T, S, W>,
+>(below: B, tree: T, scope: Option<&Scope<'_, T>>, ctx: &mut Context<'s, '_, T, S, W>)
     requires { B.can below }
     ensures { Runs (B.at below) (page T.tree T.table W.seen ctx.old) (page T.tree T.table W.seen ctx.new) (T.tree
         tree) (lent_scope T.tree scope.entry) (line_steps Tag.OperatorNameVendorExtension) }
@@ -512,12 +551,13 @@ pub fn operator_name_vendor_extension<'s, T: Tree<S>, S: 's, W: DemangleWrite, B
 
 /// The line of `CtorDtorNameCompleteConstructor`: constructs a whole object: `C1`; inherited from `B`: `CI11B`. ABI
 /// section 5.1.4.3.
-pub fn ctor_dtor_name_complete_constructor<'s, T: Tree<S>, S: 's, W: DemangleWrite, B: Below<'s, T, S, W>>(
-    below: B,
-    tree: T,
-    scope: Option<&Scope<'_, T>>,
-    ctx: &mut Context<'s, '_, T, S, W>,
-)
+pub fn ctor_dtor_name_complete_constructor<
+    's,
+    T: Tree<S>,
+    S: 's,
+    W: DemangleWrite,
+    B: Below<'s, T, S, W>,
+>(below: B, tree: T, scope: Option<&Scope<'_, T>>, ctx: &mut Context<'s, '_, T, S, W>)
     requires { B.can below }
     ensures { Runs (B.at below) (page T.tree T.table W.seen ctx.old) (page T.tree T.table W.seen ctx.new) (T.tree
         tree) (lent_scope T.tree scope.entry) (line_steps Tag.CtorDtorNameCompleteConstructor) }
@@ -527,12 +567,13 @@ pub fn ctor_dtor_name_complete_constructor<'s, T: Tree<S>, S: 's, W: DemangleWri
 }
 
 /// The line of `CtorDtorNameDeletingDestructor`: destroys a whole object and frees it: `D0`. ABI section 5.1.4.3.
-pub fn ctor_dtor_name_deleting_destructor<'s, T: Tree<S>, S: 's, W: DemangleWrite, B: Below<'s, T, S, W>>(
-    below: B,
-    tree: T,
-    scope: Option<&Scope<'_, T>>,
-    ctx: &mut Context<'s, '_, T, S, W>,
-)
+pub fn ctor_dtor_name_deleting_destructor<
+    's,
+    T: Tree<S>,
+    S: 's,
+    W: DemangleWrite,
+    B: Below<'s, T, S, W>,
+>(below: B, tree: T, scope: Option<&Scope<'_, T>>, ctx: &mut Context<'s, '_, T, S, W>)
     requires { B.can below }
     ensures { Runs (B.at below) (page T.tree T.table W.seen ctx.old) (page T.tree T.table W.seen ctx.new) (T.tree
         tree) (lent_scope T.tree scope.entry) (line_steps Tag.CtorDtorNameDeletingDestructor) }

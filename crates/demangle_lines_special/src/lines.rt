@@ -77,12 +77,13 @@ pub fn special_name_typeinfo_name<'s, T: Tree<S>, S: 's, W: DemangleWrite, B: Be
 
 /// The line of `SpecialNameTypeinfoFunction`: a function that answers what `typeid(A)` refers to, as old compilers
 /// made it: `TF1A`. ABI section 5.1.4.
-pub fn special_name_typeinfo_function<'s, T: Tree<S>, S: 's, W: DemangleWrite, B: Below<'s, T, S, W>>(
-    below: B,
-    tree: T,
-    scope: Option<&Scope<'_, T>>,
-    ctx: &mut Context<'s, '_, T, S, W>,
-)
+pub fn special_name_typeinfo_function<
+    's,
+    T: Tree<S>,
+    S: 's,
+    W: DemangleWrite,
+    B: Below<'s, T, S, W>,
+>(below: B, tree: T, scope: Option<&Scope<'_, T>>, ctx: &mut Context<'s, '_, T, S, W>)
     requires { B.can below }
     ensures { Runs (B.at below) (page T.tree T.table W.seen ctx.old) (page T.tree T.table W.seen ctx.new) (T.tree
         tree) (lent_scope T.tree scope.entry) (line_steps Tag.SpecialNameTypeinfoFunction) }
@@ -93,12 +94,13 @@ pub fn special_name_typeinfo_function<'s, T: Tree<S>, S: 's, W: DemangleWrite, B
 
 /// The line of `SpecialNameVirtualOverrideThunk`: a function that changes `this` and goes on to `A::f()`:
 /// `Thn8_N1A1fEv`. ABI section 5.1.4.
-pub fn special_name_virtual_override_thunk<'s, T: Tree<S>, S: 's, W: DemangleWrite, B: Below<'s, T, S, W>>(
-    below: B,
-    tree: T,
-    scope: Option<&Scope<'_, T>>,
-    ctx: &mut Context<'s, '_, T, S, W>,
-)
+pub fn special_name_virtual_override_thunk<
+    's,
+    T: Tree<S>,
+    S: 's,
+    W: DemangleWrite,
+    B: Below<'s, T, S, W>,
+>(below: B, tree: T, scope: Option<&Scope<'_, T>>, ctx: &mut Context<'s, '_, T, S, W>)
     requires { B.can below }
     ensures { Runs (B.at below) (page T.tree T.table W.seen ctx.old) (page T.tree T.table W.seen ctx.new) (T.tree
         tree) (lent_scope T.tree scope.entry) (line_steps Tag.SpecialNameVirtualOverrideThunk) }
@@ -112,12 +114,13 @@ pub fn special_name_virtual_override_thunk<'s, T: Tree<S>, S: 's, W: DemangleWri
 
 /// The line of `SpecialNameVirtualOverrideThunkCovariant`: one that also changes the pointer or reference that
 /// `A::f()` returns: `Tchn8_h8_N1A1fEv`. ABI section 5.1.4.
-pub fn special_name_virtual_override_thunk_covariant<'s, T: Tree<S>, S: 's, W: DemangleWrite, B: Below<'s, T, S, W>>(
-    below: B,
-    tree: T,
-    scope: Option<&Scope<'_, T>>,
-    ctx: &mut Context<'s, '_, T, S, W>,
-)
+pub fn special_name_virtual_override_thunk_covariant<
+    's,
+    T: Tree<S>,
+    S: 's,
+    W: DemangleWrite,
+    B: Below<'s, T, S, W>,
+>(below: B, tree: T, scope: Option<&Scope<'_, T>>, ctx: &mut Context<'s, '_, T, S, W>)
     requires { B.can below }
     ensures { Runs (B.at below) (page T.tree T.table W.seen ctx.old) (page T.tree T.table W.seen ctx.new) (T.tree
         tree) (lent_scope T.tree scope.entry) (line_steps Tag.SpecialNameVirtualOverrideThunkCovariant) }
@@ -202,12 +205,13 @@ pub fn special_name_guard_temporary<'s, T: Tree<S>, S: 's, W: DemangleWrite, B: 
 
 /// The line of `SpecialNameConstructionVtable`: the virtual table of `B` while it is constructed as a part of `A`, at
 /// offset 8: `TC1A8_1B`. ABI section 5.1.4.
-pub fn special_name_construction_vtable<'s, T: Tree<S>, S: 's, W: DemangleWrite, B: Below<'s, T, S, W>>(
-    below: B,
-    tree: T,
-    scope: Option<&Scope<'_, T>>,
-    ctx: &mut Context<'s, '_, T, S, W>,
-)
+pub fn special_name_construction_vtable<
+    's,
+    T: Tree<S>,
+    S: 's,
+    W: DemangleWrite,
+    B: Below<'s, T, S, W>,
+>(below: B, tree: T, scope: Option<&Scope<'_, T>>, ctx: &mut Context<'s, '_, T, S, W>)
     requires { B.can below }
     ensures { Runs (B.at below) (page T.tree T.table W.seen ctx.old) (page T.tree T.table W.seen ctx.new) (T.tree
         tree) (lent_scope T.tree scope.entry) (line_steps Tag.SpecialNameConstructionVtable) }
@@ -251,12 +255,13 @@ pub fn special_name_tls_wrapper<'s, T: Tree<S>, S: 's, W: DemangleWrite, B: Belo
 
 /// The line of `SpecialNameTransactionClone`: the copy of `f()` that runs inside a transaction, as compilers write
 /// it: `GTt1fv`. ABI section 5.1.4.
-pub fn special_name_transaction_clone<'s, T: Tree<S>, S: 's, W: DemangleWrite, B: Below<'s, T, S, W>>(
-    below: B,
-    tree: T,
-    scope: Option<&Scope<'_, T>>,
-    ctx: &mut Context<'s, '_, T, S, W>,
-)
+pub fn special_name_transaction_clone<
+    's,
+    T: Tree<S>,
+    S: 's,
+    W: DemangleWrite,
+    B: Below<'s, T, S, W>,
+>(below: B, tree: T, scope: Option<&Scope<'_, T>>, ctx: &mut Context<'s, '_, T, S, W>)
     requires { B.can below }
     ensures { Runs (B.at below) (page T.tree T.table W.seen ctx.old) (page T.tree T.table W.seen ctx.new) (T.tree
         tree) (lent_scope T.tree scope.entry) (line_steps Tag.SpecialNameTransactionClone) }
@@ -267,12 +272,13 @@ pub fn special_name_transaction_clone<'s, T: Tree<S>, S: 's, W: DemangleWrite, B
 
 /// The line of `SpecialNameNonTransactionClone`: the copy of `f()` that runs outside transactions: `GTn1fv`. ABI
 /// section 5.1.4.
-pub fn special_name_non_transaction_clone<'s, T: Tree<S>, S: 's, W: DemangleWrite, B: Below<'s, T, S, W>>(
-    below: B,
-    tree: T,
-    scope: Option<&Scope<'_, T>>,
-    ctx: &mut Context<'s, '_, T, S, W>,
-)
+pub fn special_name_non_transaction_clone<
+    's,
+    T: Tree<S>,
+    S: 's,
+    W: DemangleWrite,
+    B: Below<'s, T, S, W>,
+>(below: B, tree: T, scope: Option<&Scope<'_, T>>, ctx: &mut Context<'s, '_, T, S, W>)
     requires { B.can below }
     ensures { Runs (B.at below) (page T.tree T.table W.seen ctx.old) (page T.tree T.table W.seen ctx.new) (T.tree
         tree) (lent_scope T.tree scope.entry) (line_steps Tag.SpecialNameNonTransactionClone) }

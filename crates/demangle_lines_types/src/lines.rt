@@ -11,12 +11,13 @@ use demangle_context::{Context, DemangleNodeType, DemangleWrite};
 use demangle_lines::{Below, Scope, Tree, close, hold, part, part_at, spelled};
 
 /// The line of `ParametricBuiltinTypeFloatN`: `_Float64`: `DF64_`. ABI section 5.1.5.2.
-pub fn parametric_builtin_type_float_n<'s, T: Tree<S>, S: 's, W: DemangleWrite, B: Below<'s, T, S, W>>(
-    below: B,
-    tree: T,
-    scope: Option<&Scope<'_, T>>,
-    ctx: &mut Context<'s, '_, T, S, W>,
-)
+pub fn parametric_builtin_type_float_n<
+    's,
+    T: Tree<S>,
+    S: 's,
+    W: DemangleWrite,
+    B: Below<'s, T, S, W>,
+>(below: B, tree: T, scope: Option<&Scope<'_, T>>, ctx: &mut Context<'s, '_, T, S, W>)
     requires { B.can below }
     ensures { Runs (B.at below) (page T.tree T.table W.seen ctx.old) (page T.tree T.table W.seen ctx.new) (T.tree
         tree) (lent_scope T.tree scope.entry) (line_steps Tag.ParametricBuiltinTypeFloatN) }
@@ -26,12 +27,13 @@ pub fn parametric_builtin_type_float_n<'s, T: Tree<S>, S: 's, W: DemangleWrite, 
 }
 
 /// The line of `ParametricBuiltinTypeFloatNx`: `_Float64x`: `DF64x`. ABI section 5.1.5.2.
-pub fn parametric_builtin_type_float_nx<'s, T: Tree<S>, S: 's, W: DemangleWrite, B: Below<'s, T, S, W>>(
-    below: B,
-    tree: T,
-    scope: Option<&Scope<'_, T>>,
-    ctx: &mut Context<'s, '_, T, S, W>,
-)
+pub fn parametric_builtin_type_float_nx<
+    's,
+    T: Tree<S>,
+    S: 's,
+    W: DemangleWrite,
+    B: Below<'s, T, S, W>,
+>(below: B, tree: T, scope: Option<&Scope<'_, T>>, ctx: &mut Context<'s, '_, T, S, W>)
     requires { B.can below }
     ensures { Runs (B.at below) (page T.tree T.table W.seen ctx.old) (page T.tree T.table W.seen ctx.new) (T.tree
         tree) (lent_scope T.tree scope.entry) (line_steps Tag.ParametricBuiltinTypeFloatNx) }
@@ -42,12 +44,13 @@ pub fn parametric_builtin_type_float_nx<'s, T: Tree<S>, S: 's, W: DemangleWrite,
 }
 
 /// The line of `ParametricBuiltinTypeSignedBitInt`: `signed _BitInt(9)`: `DB9_`. ABI section 5.1.5.2.
-pub fn parametric_builtin_type_signed_bit_int<'s, T: Tree<S>, S: 's, W: DemangleWrite, B: Below<'s, T, S, W>>(
-    below: B,
-    tree: T,
-    scope: Option<&Scope<'_, T>>,
-    ctx: &mut Context<'s, '_, T, S, W>,
-)
+pub fn parametric_builtin_type_signed_bit_int<
+    's,
+    T: Tree<S>,
+    S: 's,
+    W: DemangleWrite,
+    B: Below<'s, T, S, W>,
+>(below: B, tree: T, scope: Option<&Scope<'_, T>>, ctx: &mut Context<'s, '_, T, S, W>)
     requires { B.can below }
     ensures { Runs (B.at below) (page T.tree T.table W.seen ctx.old) (page T.tree T.table W.seen ctx.new) (T.tree
         tree) (lent_scope T.tree scope.entry) (line_steps Tag.ParametricBuiltinTypeSignedBitInt) }
@@ -58,12 +61,13 @@ pub fn parametric_builtin_type_signed_bit_int<'s, T: Tree<S>, S: 's, W: Demangle
 }
 
 /// The line of `ParametricBuiltinTypeUnsignedBitInt`: `unsigned _BitInt(9)`: `DU9_`. ABI section 5.1.5.2.
-pub fn parametric_builtin_type_unsigned_bit_int<'s, T: Tree<S>, S: 's, W: DemangleWrite, B: Below<'s, T, S, W>>(
-    below: B,
-    tree: T,
-    scope: Option<&Scope<'_, T>>,
-    ctx: &mut Context<'s, '_, T, S, W>,
-)
+pub fn parametric_builtin_type_unsigned_bit_int<
+    's,
+    T: Tree<S>,
+    S: 's,
+    W: DemangleWrite,
+    B: Below<'s, T, S, W>,
+>(below: B, tree: T, scope: Option<&Scope<'_, T>>, ctx: &mut Context<'s, '_, T, S, W>)
     requires { B.can below }
     ensures { Runs (B.at below) (page T.tree T.table W.seen ctx.old) (page T.tree T.table W.seen ctx.new) (T.tree
         tree) (lent_scope T.tree scope.entry) (line_steps Tag.ParametricBuiltinTypeUnsignedBitInt) }
@@ -75,12 +79,13 @@ pub fn parametric_builtin_type_unsigned_bit_int<'s, T: Tree<S>, S: 's, W: Demang
 
 /// The line of `ParametricBuiltinTypeSignedBitIntExpression`: `signed _BitInt(N)`, of a template parameter: `DBT__`.
 /// ABI section 5.1.5.2.
-pub fn parametric_builtin_type_signed_bit_int_expression<'s, T: Tree<S>, S: 's, W: DemangleWrite, B: Below<'s, T, S, W>>(
-    below: B,
-    tree: T,
-    scope: Option<&Scope<'_, T>>,
-    ctx: &mut Context<'s, '_, T, S, W>,
-)
+pub fn parametric_builtin_type_signed_bit_int_expression<
+    's,
+    T: Tree<S>,
+    S: 's,
+    W: DemangleWrite,
+    B: Below<'s, T, S, W>,
+>(below: B, tree: T, scope: Option<&Scope<'_, T>>, ctx: &mut Context<'s, '_, T, S, W>)
     requires { B.can below }
     ensures { Runs (B.at below) (page T.tree T.table W.seen ctx.old) (page T.tree T.table W.seen ctx.new) (T.tree
         tree) (lent_scope T.tree scope.entry) (line_steps Tag.ParametricBuiltinTypeSignedBitIntExpression) }
@@ -92,12 +97,13 @@ pub fn parametric_builtin_type_signed_bit_int_expression<'s, T: Tree<S>, S: 's, 
 
 /// The line of `ParametricBuiltinTypeUnsignedBitIntExpression`: `unsigned _BitInt(N)`, of a template parameter:
 /// `DUT__`. ABI section 5.1.5.2.
-pub fn parametric_builtin_type_unsigned_bit_int_expression<'s, T: Tree<S>, S: 's, W: DemangleWrite, B: Below<'s, T, S, W>>(
-    below: B,
-    tree: T,
-    scope: Option<&Scope<'_, T>>,
-    ctx: &mut Context<'s, '_, T, S, W>,
-)
+pub fn parametric_builtin_type_unsigned_bit_int_expression<
+    's,
+    T: Tree<S>,
+    S: 's,
+    W: DemangleWrite,
+    B: Below<'s, T, S, W>,
+>(below: B, tree: T, scope: Option<&Scope<'_, T>>, ctx: &mut Context<'s, '_, T, S, W>)
     requires { B.can below }
     ensures { Runs (B.at below) (page T.tree T.table W.seen ctx.old) (page T.tree T.table W.seen ctx.new) (T.tree
         tree) (lent_scope T.tree scope.entry) (line_steps Tag.ParametricBuiltinTypeUnsignedBitIntExpression) }
@@ -258,12 +264,13 @@ pub fn type_node_pack_expansion<'s, T: Tree<S>, S: 's, W: DemangleWrite, B: Belo
 }
 
 /// The line of `ClassEnumTypeElaboratedStruct`: `struct A`, or `class A`: `Ts1A`. ABI section 5.1.5.4.
-pub fn class_enum_type_elaborated_struct<'s, T: Tree<S>, S: 's, W: DemangleWrite, B: Below<'s, T, S, W>>(
-    below: B,
-    tree: T,
-    scope: Option<&Scope<'_, T>>,
-    ctx: &mut Context<'s, '_, T, S, W>,
-)
+pub fn class_enum_type_elaborated_struct<
+    's,
+    T: Tree<S>,
+    S: 's,
+    W: DemangleWrite,
+    B: Below<'s, T, S, W>,
+>(below: B, tree: T, scope: Option<&Scope<'_, T>>, ctx: &mut Context<'s, '_, T, S, W>)
     requires { B.can below }
     ensures { Runs (B.at below) (page T.tree T.table W.seen ctx.old) (page T.tree T.table W.seen ctx.new) (T.tree
         tree) (lent_scope T.tree scope.entry) (line_steps Tag.ClassEnumTypeElaboratedStruct) }
@@ -273,12 +280,13 @@ pub fn class_enum_type_elaborated_struct<'s, T: Tree<S>, S: 's, W: DemangleWrite
 }
 
 /// The line of `ClassEnumTypeElaboratedUnion`: `union A`: `Tu1A`. ABI section 5.1.5.4.
-pub fn class_enum_type_elaborated_union<'s, T: Tree<S>, S: 's, W: DemangleWrite, B: Below<'s, T, S, W>>(
-    below: B,
-    tree: T,
-    scope: Option<&Scope<'_, T>>,
-    ctx: &mut Context<'s, '_, T, S, W>,
-)
+pub fn class_enum_type_elaborated_union<
+    's,
+    T: Tree<S>,
+    S: 's,
+    W: DemangleWrite,
+    B: Below<'s, T, S, W>,
+>(below: B, tree: T, scope: Option<&Scope<'_, T>>, ctx: &mut Context<'s, '_, T, S, W>)
     requires { B.can below }
     ensures { Runs (B.at below) (page T.tree T.table W.seen ctx.old) (page T.tree T.table W.seen ctx.new) (T.tree
         tree) (lent_scope T.tree scope.entry) (line_steps Tag.ClassEnumTypeElaboratedUnion) }
@@ -288,12 +296,13 @@ pub fn class_enum_type_elaborated_union<'s, T: Tree<S>, S: 's, W: DemangleWrite,
 }
 
 /// The line of `ClassEnumTypeElaboratedEnum`: `enum A`: `Te1A`. ABI section 5.1.5.4.
-pub fn class_enum_type_elaborated_enum<'s, T: Tree<S>, S: 's, W: DemangleWrite, B: Below<'s, T, S, W>>(
-    below: B,
-    tree: T,
-    scope: Option<&Scope<'_, T>>,
-    ctx: &mut Context<'s, '_, T, S, W>,
-)
+pub fn class_enum_type_elaborated_enum<
+    's,
+    T: Tree<S>,
+    S: 's,
+    W: DemangleWrite,
+    B: Below<'s, T, S, W>,
+>(below: B, tree: T, scope: Option<&Scope<'_, T>>, ctx: &mut Context<'s, '_, T, S, W>)
     requires { B.can below }
     ensures { Runs (B.at below) (page T.tree T.table W.seen ctx.old) (page T.tree T.table W.seen ctx.new) (T.tree
         tree) (lent_scope T.tree scope.entry) (line_steps Tag.ClassEnumTypeElaboratedEnum) }

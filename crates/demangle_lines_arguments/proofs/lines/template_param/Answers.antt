@@ -6,5 +6,7 @@ use Rattle.demangle_lines_arguments.proofs.lines.template_param.Goals as goal
 
 pub returns : goal.returns
 unfolding line_steps
-returns g c = record { meets = meets_event c.begin_node-told.ensures (meets_rest (c.choice_1.ensures.rest _)
-    meets_done) c.end_node.ensures meets_done }
+returns g c = record {
+  meets = meets_event c.begin_node-told.ensures (meets_rest (c.choice_1.ensures.rest _)
+      meets_done) c.end_node.ensures meets_done;
+}

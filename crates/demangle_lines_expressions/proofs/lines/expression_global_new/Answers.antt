@@ -4,5 +4,7 @@ use Rattle.demangle_lines_expressions.proofs.lines.expression_global_new.Goals a
 
 pub returns : goal.returns
 unfolding line_steps
-returns g c = record { meets = meets_text c.text.ensures (meets_text c.text-2.ensures (meets_block c.list.ensures
-    (meets_text c.text-3.ensures (meets_block c.part.ensures (meets_block c.part-2.ensures meets_done))))) }
+returns g c = record {
+  meets = meets_text c.text.ensures (meets_text c.text-2.ensures (meets_block c.list.ensures
+      (meets_text c.text-3.ensures (meets_block c.part.ensures (meets_block c.part-2.ensures meets_done)))));
+}

@@ -4,6 +4,8 @@ use Rattle.demangle_lines_expressions.proofs.lines.fold_expr_binary_left.Goals a
 
 pub returns : goal.returns
 unfolding line_steps
-returns g c = record { meets = meets_text c.text.ensures (meets_block c.operand.ensures (meets_block c.part.ensures
-    (meets_text c.text-2.ensures (meets_block c.part-2.ensures (meets_block c.operand-2.ensures (meets_text
-    c.text-3.ensures meets_done)))))) }
+returns g c = record {
+  meets = meets_text c.text.ensures (meets_block c.operand.ensures (meets_block c.part.ensures
+      (meets_text c.text-2.ensures (meets_block c.part-2.ensures (meets_block c.operand-2.ensures (meets_text
+      c.text-3.ensures meets_done))))));
+}

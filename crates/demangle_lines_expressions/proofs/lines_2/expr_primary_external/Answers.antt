@@ -5,5 +5,7 @@ use Rattle.demangle_lines_expressions.proofs.lines_2.expr_primary_external.Goals
 
 pub returns : goal.returns
 unfolding line_steps
-returns g c = record { meets = meets_params c.is_on-before.ensures c.turn.ensures (meets_block c.part.ensures
-    meets_done) c.turn-2.ensures meets_done }
+returns g c = record {
+  meets = meets_params c.is_on-before.ensures c.turn.ensures (meets_block c.part.ensures
+      meets_done) c.turn-2.ensures meets_done;
+}

@@ -10,6 +10,8 @@ use Rattle.demangle_lines_expressions.proofs.lines_2.unresolved_name_nested2.Goa
 
 pub returns : goal.returns
 unfolding line_steps
-returns g c = record { meets = meets_block (meets_found (λ y. each_of (world_of (g.B.Below.at c.args.below).refers)
-    each_1_steps (listed (world_of (g.B.Below.at c.args.below).refers) y) (lent_scope g.T.InnerNode.tree
-    c.args.scope)) c.part_at.ensures c.each_1.ensures meets_done) (meets_block c.part.ensures meets_done) }
+returns g c = record {
+  meets = meets_block (meets_found (λ y. each_of (world_of (g.B.Below.at c.args.below).refers)
+      each_1_steps (listed (world_of (g.B.Below.at c.args.below).refers) y) (lent_scope g.T.InnerNode.tree
+      c.args.scope)) c.part_at.ensures c.each_1.ensures meets_done) (meets_block c.part.ensures meets_done);
+}

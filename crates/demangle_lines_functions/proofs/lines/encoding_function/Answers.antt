@@ -6,7 +6,6 @@ use Rattle.demangle_printing.specs.Reader.{run}
 use Rattle.demangle_meets.specs.Place.{world_of}
 use Rattle.demangle_meets.proofs.Acts.{meets_block, meets_done}
 use Rattle.demangle_meets.proofs.Around.{meets_fence}
-use Rattle.demangle_meets.proofs.Lines.{meets_rest}
 use Rattle.demangle_meets.proofs.Parts.{meets_found}
 use Rattle.demangle_printing.specs.State as kind
 use Rattle.demangle_lines_functions.proofs.lines.encoding_function.Goals as goal
@@ -19,11 +18,5 @@ returns g c = record { meets = meets_fence c.fence-items.ensures (meets_found (�
     kind.returns) (Test.isnt (Test.special (0 ∷ []))))) (Step.line (1 ∷ 0 ∷ 0 ∷ []) (Step.say (Piece.quoted (codes "
     ")) Step.done)) Step.done Step.done) (Step.block (Step.test (Test.flag kind.params) (Step.held [] false (Step.line
     (0 ∷ []) Step.done) Step.done) (Step.line (0 ∷ []) Step.done) Step.done) Step.done)) Step.done) Step.done)
-    Step.done)) c.with_leaf_name-inner.ensures (meets_block (meets_found (λ s. run (world_of (g.B.Below.at
-    c.args.below).refers) (Some (g.T.InnerNode.tree c.args.tree)) s (Step.block (Step.block (Step.test (Test.both
-    (Test.has_args as_prefix (0 ∷ [])) (Test.both (Test.flag kind.returns) (Test.isnt (Test.special (0 ∷ [])))))
-    (Step.line (1 ∷ 0 ∷ 0 ∷ []) (Step.say (Piece.quoted (codes " ")) Step.done)) Step.done Step.done) (Step.block
-    (Step.test (Test.flag kind.params) (Step.held [] false (Step.line (0 ∷ []) Step.done) Step.done) (Step.line (0 ∷
-    []) Step.done) Step.done) Step.done)) Step.done)) c.with_prefix_arguments-inner_2.ensures (meets_block
-    (meets_block (meets_rest (c.choice_1.ensures.rest _) meets_done) (meets_block (meets_rest (c.choice_2.ensures.rest
-    _) meets_done) meets_done)) meets_done) meets_done) meets_done) meets_done) c.unfence.ensures meets_done }
+    Step.done)) c.with_leaf_name-inner.ensures (meets_block c.under_1.ensures.meets meets_done) meets_done)
+    c.unfence.ensures meets_done }

@@ -4,5 +4,7 @@ use Rattle.demangle_lines_names.proofs.lines.ctor_dtor_name_deleting_destructor.
 
 pub returns : goal.returns
 unfolding line_steps
-returns g c = record { meets = meets_block c.need_leaf.ensures (meets_text c.text.ensures (meets_block c.leaf.ensures
-    meets_done)) }
+returns g c = record {
+  meets = meets_block c.need_leaf.ensures (meets_text c.text.ensures (meets_block c.leaf.ensures
+      meets_done));
+}

@@ -6,6 +6,8 @@ use Rattle.demangle_lines_names.proofs.lines.global_ctor_dtor_ctor.Goals as goal
 
 pub returns : goal.returns
 unfolding line_steps
-returns g c = record { meets = meets_fence c.fence-items.ensures (meets_params c.is_on-before.ensures c.turn.ensures
-    (meets_text c.text.ensures (meets_block c.part.ensures meets_done)) c.turn-2.ensures meets_done) c.unfence.ensures
-    meets_done }
+returns g c = record {
+  meets = meets_fence c.fence-items.ensures (meets_params c.is_on-before.ensures c.turn.ensures
+      (meets_text c.text.ensures (meets_block c.part.ensures meets_done)) c.turn-2.ensures meets_done) c.unfence.ensures
+      meets_done;
+}

@@ -4,5 +4,7 @@ use Rattle.demangle_lines_names.proofs.lines.lambda_sig.Goals as goal
 
 pub returns : goal.returns
 unfolding line_steps
-returns g c = record { meets = meets_set c.turn.ensures (meets_block c.list.ensures (meets_set c.turn-2.ensures
-    meets_done)) }
+returns g c = record {
+  meets = meets_set c.turn.ensures (meets_block c.list.ensures (meets_set c.turn-2.ensures
+      meets_done));
+}

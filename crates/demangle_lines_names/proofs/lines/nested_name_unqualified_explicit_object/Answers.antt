@@ -7,6 +7,8 @@ use Rattle.demangle_lines_names.proofs.lines.nested_name_unqualified_explicit_ob
 
 pub returns : goal.returns
 unfolding line_steps
-returns g c = record { meets = meets_block (meets_fence c.fence-items.ensures (meets_event c.begin_node-told.ensures
-    (meets_rest (c.choice_5.ensures.rest _) (meets_block c.part.ensures meets_done)) c.end_node.ensures meets_done)
-    c.unfence.ensures meets_done) (meets_set c.turn.ensures (meets_rest (c.taken.ensures.rest _) meets_done)) }
+returns g c = record {
+  meets = meets_block (meets_fence c.fence-items.ensures (meets_event c.begin_node-told.ensures
+      (meets_rest (c.choice_5.ensures.rest _) (meets_block c.part.ensures meets_done)) c.end_node.ensures meets_done)
+      c.unfence.ensures meets_done) (meets_set c.turn.ensures (meets_rest (c.taken.ensures.rest _) meets_done));
+}

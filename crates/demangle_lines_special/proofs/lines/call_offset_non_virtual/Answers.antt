@@ -4,5 +4,7 @@ use Rattle.demangle_lines_special.proofs.lines.call_offset_non_virtual.Goals as 
 
 pub returns : goal.returns
 unfolding line_steps
-returns g c = record { meets = meets_text c.text.ensures (meets_block c.inner_spelled.ensures (meets_text
-    c.text-2.ensures meets_done)) }
+returns g c = record {
+  meets = meets_text c.text.ensures (meets_block c.inner_spelled.ensures (meets_text
+      c.text-2.ensures meets_done));
+}

@@ -10,6 +10,8 @@ use Rattle.demangle_lines_special.proofs.lines.special_name_java_resource.Goals 
 
 pub returns : goal.returns
 unfolding line_steps
-returns g c = record { meets = meets_text c.text.ensures (meets_found (λ y. each_of (world_of (g.B.Below.at
-    c.args.below).refers) each_1_steps (listed (world_of (g.B.Below.at c.args.below).refers) y) (lent_scope
-    g.T.InnerNode.tree c.args.scope)) c.part_at.ensures c.each_1.ensures meets_done) }
+returns g c = record {
+  meets = meets_text c.text.ensures (meets_found (λ y. each_of (world_of (g.B.Below.at
+      c.args.below).refers) each_1_steps (listed (world_of (g.B.Below.at c.args.below).refers) y) (lent_scope
+      g.T.InnerNode.tree c.args.scope)) c.part_at.ensures c.each_1.ensures meets_done);
+}

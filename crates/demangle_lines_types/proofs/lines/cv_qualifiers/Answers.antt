@@ -5,5 +5,7 @@ use Rattle.demangle_lines_types.proofs.lines.cv_qualifiers.Goals as goal
 
 pub returns : goal.returns
 unfolding line_steps
-returns g c = record { meets = meets_rest (c.choice_1.ensures.rest _) (meets_rest (c.choice_2.ensures.rest _)
-    (meets_rest (c.choice_3.ensures.rest _) meets_done)) }
+returns g c = record {
+  meets = meets_rest (c.choice_1.ensures.rest _) (meets_rest (c.choice_2.ensures.rest _)
+      (meets_rest (c.choice_3.ensures.rest _) meets_done));
+}

@@ -5,5 +5,7 @@ use Rattle.demangle_lines_types.proofs.lines.decltype_id_expression.Goals as goa
 
 pub returns : goal.returns
 unfolding line_steps
-returns g c = record { meets = meets_event c.begin_node-told.ensures (meets_text c.text.ensures (meets_block
-    c.part.ensures (meets_text c.text-2.ensures meets_done))) c.end_node.ensures meets_done }
+returns g c = record {
+  meets = meets_event c.begin_node-told.ensures (meets_text c.text.ensures (meets_block
+      c.part.ensures (meets_text c.text-2.ensures meets_done))) c.end_node.ensures meets_done;
+}

@@ -5,5 +5,7 @@ use Rattle.demangle_lines_types.proofs.lines.type_node_pointer_to.Goals as goal
 
 pub returns : goal.returns
 unfolding line_steps
-returns g c = record { meets = meets_held c.hold.ensures (meets_block c.part.ensures meets_done) c.close.ensures
-    meets_done }
+returns g c = record {
+  meets = meets_held c.hold.ensures (meets_block c.part.ensures meets_done) c.close.ensures
+      meets_done;
+}
