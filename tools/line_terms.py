@@ -111,7 +111,7 @@ def steps(values):
 def wrapped(text, indent, width=WIDTH):
     """Words in lines; the lines behind the first are indented."""
     lines, line = [], ""
-    for word in text.split(" "):
+    for word in re.findall(r'(?:"(?:[^"\\]|\\.)*"|[^ "])+', text):
         if line and len(line) + 1 + len(word) > width:
             lines.append(line)
             line = indent + word

@@ -10,11 +10,13 @@ use Rattle.demangle_printing.specs.State as kind
 use Rattle.demangle_lines_functions.proofs.choices.under_1.Goals as goal
 
 pub returns : goal.returns
-returns g c = record { meets = meets_found (λ s. run (world_of (g.B.Below.at c.args.below).refers) (Some
-    (g.T.InnerNode.tree c.args.tree)) s (Step.block (Step.block (Step.test (Test.both (Test.has_args as_prefix (0 ∷
-    [])) (Test.both (Test.flag kind.returns) (Test.isnt (Test.special (0 ∷ []))))) (Step.line (1 ∷ 0 ∷ 0 ∷ [])
-    (Step.say (Piece.quoted (codes " ")) Step.done)) Step.done Step.done) (Step.block (Step.test (Test.flag
-    kind.params) (Step.held [] false (Step.line (0 ∷ []) Step.done) Step.done) (Step.line (0 ∷ []) Step.done)
-    Step.done) Step.done)) Step.done)) c.with_prefix_arguments-inner.ensures (meets_block (meets_block (meets_rest
-    (c.choice_1.ensures.rest _) meets_done) (meets_block (meets_rest (c.choice_2.ensures.rest _) meets_done)
-    meets_done)) meets_done) meets_done }
+returns g c = record {
+  meets = meets_found (λ s. run (world_of (g.B.Below.at c.args.below).refers) (Some
+      (g.T.InnerNode.tree c.args.tree)) s (Step.block (Step.block (Step.test (Test.both (Test.has_args as_prefix (0 ∷
+      [])) (Test.both (Test.flag kind.returns) (Test.isnt (Test.special (0 ∷ []))))) (Step.line (1 ∷ 0 ∷ 0 ∷ [])
+      (Step.say (Piece.quoted (codes " ")) Step.done)) Step.done Step.done) (Step.block (Step.test (Test.flag
+      kind.params) (Step.held [] false (Step.line (0 ∷ []) Step.done) Step.done) (Step.line (0 ∷ []) Step.done)
+      Step.done) Step.done)) Step.done)) c.with_prefix_arguments-inner.ensures (meets_block (meets_block (meets_rest
+      (c.choice_1.ensures.rest _) meets_done) (meets_block (meets_rest (c.choice_2.ensures.rest _) meets_done)
+      meets_done)) meets_done) meets_done;
+}

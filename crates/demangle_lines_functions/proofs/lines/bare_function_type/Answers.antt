@@ -5,5 +5,7 @@ use Rattle.demangle_lines_functions.proofs.lines.bare_function_type.Goals as goa
 
 pub returns : goal.returns
 unfolding line_steps
-returns g c = record { meets = meets_held c.hold.ensures (meets_block c.inner_part.ensures meets_done)
-    c.close_spaced.ensures meets_done }
+returns g c = record {
+  meets = meets_held c.hold.ensures (meets_block c.inner_part.ensures meets_done)
+      c.close_spaced.ensures meets_done;
+}

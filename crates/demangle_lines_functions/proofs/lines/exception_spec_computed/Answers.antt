@@ -4,5 +4,7 @@ use Rattle.demangle_lines_functions.proofs.lines.exception_spec_computed.Goals a
 
 pub returns : goal.returns
 unfolding line_steps
-returns g c = record { meets = meets_text c.text.ensures (meets_block c.part.ensures (meets_text c.text-2.ensures
-    meets_done)) }
+returns g c = record {
+  meets = meets_text c.text.ensures (meets_block c.part.ensures (meets_text c.text-2.ensures
+      meets_done));
+}
