@@ -138,8 +138,15 @@ def root(name, group, used, modules):
     by_hand = beside(name, "src", ".rt")
     text = ["//! " + line for line in text] + ["#![tactic(auto)]", ""]
     text += ["mod %s;" % module for module in sorted(used + by_hand)] + [""]
+    exported = {**{module: public(name, module) for module in by_hand}, **modules}
     return "\n".join(text) + "\n" + "".join(
-        "pub " + line_uses.rust_use(module, functions) for module, functions in sorted(modules.items()))
+        "pub " + line_uses.rust_use(module, functions) for module, functions in sorted(exported.items()) if functions)
+
+
+def public(name, module):
+    """The public functions of a module that is written by hand."""
+    with open(os.path.join(antt.CRATES, name, "src", module + ".rt")) as source:
+        return re.findall(r"^pub fn (\w+)", source.read(), re.M)
 
 
 def written_files(name):

@@ -1,4 +1,4 @@
-pub mod Kinds
-pub mod Types
+pub mod Numbers
 pub mod Rvalues
+pub mod Types
 pub mod Wanting

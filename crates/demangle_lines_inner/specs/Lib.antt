@@ -1,3 +1,4 @@
-pub mod Tops
-pub mod Kinds
 pub mod Behind
+pub mod Kinds
+pub mod Tops
+pub mod Choices

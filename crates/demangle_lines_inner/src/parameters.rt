@@ -7,7 +7,8 @@ ghost use Rattle.demangle_printing.specs.Act.{call, done};
 ghost use Rattle.demangle_printing.specs.Parameters.{explicit_object, is_kept, is_void, parameters_act};
 ghost use Rattle.demangle_printing.specs.Parameters.{parameters_end};
 ghost use Rattle.demangle_printing.specs.Print.{body};
-ghost use Rattle.demangle_printing.specs.Rules.{inside_node, inside_of, lines_of};
+ghost use Rattle.demangle_core.specs.Lookups.{as_prefix};
+ghost use Rattle.demangle_printing.specs.Rules.{args_of, inside_node, inside_of, lines_of};
 ghost use Rattle.demangle_printing.specs.World.{find, listed};
 ghost use Rattle.demangle_meets.specs.Meets.{Meets, Sifts};
 ghost use Rattle.demangle_meets.specs.Place.{Place, world_of};
@@ -185,4 +186,41 @@ ensures { Meets (B.at below) (page T.tree T.table W.seen ctx.old) (page T.tree T
         (T.tree tree)) (number ∷ []))))) (lent_scope T.tree scope.entry) done) }
 {
     parameters(below, part_at(below, tree, number), from, scope, ctx);
+}
+
+/// The template arguments of the name of a function.
+fn name_arguments<'s, T: Tree<S>, S: 's, W: DemangleWrite, B: Below<'s, T, S, W>>(
+    below: B,
+    tree: T,
+) -> Option<T>
+ensures { option_map T.tree result ≡ args_of (world_of (B.at below).refers) as_prefix (find (world_of (B.at
+        below).refers) (Some (T.tree tree)) (0 ∷ [])) }
+{
+    match part_at(below, tree, 0) {
+        None => None,
+        Some(name) => prefix_arguments_at(below, name),
+    }
+}
+
+/// What of a function stands behind its name, its level entered: its parameters, where template arguments of its name are in scope and the first type, its result, is left out.
+pub fn function_inside<'s, T: Tree<S>, S: 's, W: DemangleWrite, B: Below<'s, T, S, W>>(
+    below: B,
+    tree: T,
+    scope: Option<&Scope<'_, T>>,
+    ctx: &mut Context<'s, '_, T, S, W>,
+)
+    requires { B.can below }
+ensures { Meets (B.at below) (page T.tree T.table W.seen ctx.old) (page T.tree T.table W.seen ctx.new) (body (world_of
+        (B.at below).refers) (inside_node (world_of (B.at below).refers) (T.tree tree) (lent_scope T.tree scope.entry)
+        Tag.EncodingFunction).0 (inside_node (world_of (B.at below).refers) (T.tree tree) (lent_scope T.tree
+        scope.entry) Tag.EncodingFunction).1) }
+{
+    let types = part_of_part(below, tree, 1, 0);
+    match name_arguments(below, tree) {
+        None => parameters_steps(below, types, 0, scope, ctx),
+        Some(arguments) => {
+            let inner = found_arguments(scope, Some(arguments), tree);
+            parameters_steps(below, types, 1, Some(&inner), ctx);
+        }
+    }
 }

@@ -22,8 +22,11 @@ use Rattle.demangle_lines.specs.Shapes.{is_tag, shape_in}
 use Rattle.demangle_lines.proofs.Lists.{list_first, list_next, list_over}
 use Rattle.demangle_lines.proofs.Turns.{sift_begins, sift_keeps, sift_does, sift_stops, sift_done, arrays_begin, arrays_stop, arrays_qualified, arrays_next, arrays_none, arrays_done}
 use Rattle.demangle_lines_inner.specs.Kinds.{number_holds, number_turn, number_wants, turn_of, wanted_of}
-use Rattle.demangle_lines_inner.proofs.Kinds.{array_code, handle_itself, handle_part, kept_there, kept_other, tag_node, tag_other, turn_other, turn_qualified, wants_code}
-use Rattle.demangle_lines_inner.proofs.Types.{none_from, first_from, void_one, void_other}
+use Rattle.demangle_lines_inner.proofs.Numbers.{array_code, handle_itself, handle_part, kept_there, kept_other, tag_node, tag_other, turn_other, turn_qualified, wants_code}
+use Rattle.demangle_lines_inner.proofs.Types.{none_from, first_from, void_never, void_one, void_other}
+use Rattle.demangle_printing.specs.Outcome.{first_state}
+use Rattle.demangle_context.specs.Options.{default_options}
+
 use Rattle.demangle_printing.specs.Arrays.{other, qualified}
 use Rattle.demangle_lines_inner.proofs.arrays.others_before_bounds.Goals as goal
 

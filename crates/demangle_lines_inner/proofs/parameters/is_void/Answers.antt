@@ -22,12 +22,17 @@ use Rattle.demangle_lines.specs.Shapes.{is_tag, shape_in}
 use Rattle.demangle_lines.proofs.Lists.{list_first, list_next, list_over}
 use Rattle.demangle_lines.proofs.Turns.{sift_begins, sift_keeps, sift_does, sift_stops, sift_done, arrays_begin, arrays_stop, arrays_qualified, arrays_next, arrays_none, arrays_done}
 use Rattle.demangle_lines_inner.specs.Kinds.{number_holds, number_turn, number_wants, turn_of, wanted_of}
-use Rattle.demangle_lines_inner.proofs.Kinds.{array_code, handle_itself, handle_part, kept_there, kept_other, tag_node, tag_other, turn_other, turn_qualified, wants_code}
-use Rattle.demangle_lines_inner.proofs.Types.{none_from, first_from, void_one, void_other}
+use Rattle.demangle_lines_inner.proofs.Numbers.{array_code, handle_itself, handle_part, kept_there, kept_other, tag_node, tag_other, turn_other, turn_qualified, wants_code}
+use Rattle.demangle_lines_inner.proofs.Types.{none_from, first_from, void_never, void_one, void_other}
+use Rattle.demangle_printing.specs.Outcome.{first_state}
+use Rattle.demangle_context.specs.Options.{default_options}
 use Rattle.demangle_lines_inner.proofs.parameters.is_void.Goals as goal
 
+pub returns-then-count_of-from : goal.returns-then-count_of-from
+returns-then-count_of-from g c = void_other (world_of (g.B.Below.at c.args.below).refers) c.args.from (listed (world_of (g.B.Below.at c.args.below).refers) (option_map g.T.InnerNode.tree c.args.list)) (λ e. c.if-count_of-from.true (c.count_of.ensures ∙ e))
+
 pub returns-in-None : goal.returns-in-None
-returns-in-None g c = ?
+returns-in-None g c = void_never (world_of (g.B.Below.at c.args.below).refers) c.args.from (listed (world_of (g.B.Below.at c.args.below).refers) (option_map g.T.InnerNode.tree c.args.list)) (sym c.count_of.ensures ∙ c.if-count_of-from.false) c.in-None.ensures
 
 pub returns-in-Some : goal.returns-in-Some
-returns-in-Some g c = ?
+returns-in-Some g c = c.is_inner_word.ensures.is (first_state default_options) ∙ void_one (world_of (g.B.Below.at c.args.below).refers) c.args.from (listed (world_of (g.B.Below.at c.args.below).refers) (option_map g.T.InnerNode.tree c.args.list)) (g.T.InnerNode.tree c.in-Some.tree) (sym c.count_of.ensures ∙ c.if-count_of-from.false) c.in-Some.ensures

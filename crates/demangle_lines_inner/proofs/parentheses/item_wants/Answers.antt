@@ -2,7 +2,7 @@ use Rattle.std.proofs.Common.{◌∙◌, ap}
 use Rattle.demangle_printing.specs.Rules.{tag}
 use Rattle.demangle_meets.specs.Place.{world_of}
 use Rattle.demangle_lines_inner.specs.Kinds.{number_wants}
-use Rattle.demangle_lines_inner.proofs.Kinds.{wants_code}
+use Rattle.demangle_lines_inner.proofs.Numbers.{wants_code}
 use Rattle.demangle_lines_inner.proofs.parentheses.item_wants.Goals as goal
 
 pub returns : goal.returns

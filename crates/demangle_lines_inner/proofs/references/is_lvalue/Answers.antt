@@ -1,7 +1,7 @@
 use Rattle.std.proofs.Common.{◌==◌, ◌∙◌, ap}
 use Rattle.demangle_printing.specs.Rules.{tag}
 use Rattle.demangle_meets.specs.Place.{world_of}
-use Rattle.demangle_lines_inner.proofs.Kinds.{lvalue_code}
+use Rattle.demangle_lines_inner.proofs.Numbers.{lvalue_code}
 use Rattle.demangle_lines_inner.proofs.references.is_lvalue.Goals as goal
 
 pub returns : goal.returns
