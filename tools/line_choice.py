@@ -3,21 +3,28 @@ import re
 
 import antt
 import line_terms
-from line_terms import snake
+import line_uses
 
 CRATE = "demangle_lines_nodes"
 A_BLOCK = 16
 PAGES = "(page T.tree T.table W.seen ctx.old) (page T.tree T.table W.seen ctx.new)"
 SCOPE = "(lent_scope T.tree scope.entry)"
-CALL = "(below, tree, %sscope, ctx)"
-HEAD = """use Rattle.std.proofs.Common.{◌≡◌, ◌/◌, ◌+◌, ◌<◌, ◌≤◌, ap, arith, refl, sym}
-use Rattle.demangle_core.specs.Core.{Tag}
-use Rattle.demangle_printing.specs.Lines.{line_steps, inside_steps}
+PARAMETERS = ["below: B", "number: u8", "tree: T", "scope: Option<&Scope<'_, T>>", "ctx: &mut Context<'s, '_, T, S, W>"]
+USES = """ghost use Rattle.std.specs.Prelude.{◌≡◌, ◌/◌};
+ghost use Rattle.demangle_printing.specs.Lines.{line_steps};
+ghost use Rattle.demangle_context.specs.PageOf.{page};
+ghost use Rattle.demangle_lines.specs.Does.{Runs};
+ghost use Rattle.demangle_lines.specs.ScopeOf.{lent_scope};
+ghost use Rattle.demangle_lines_nodes.specs.Tags.{tag_at};
+
+"""
+PROOF = """use Rattle.std.proofs.Common.{◌≡◌, ◌/◌, ◌+◌, ◌<◌, ◌≤◌, ap, arith}
+use Rattle.demangle_printing.specs.Lines.{line_steps}
 use Rattle.demangle_meets.proofs.Acts.{meets_block, meets_done}
 use Rattle.demangle_lines.proofs.Doing.{runs_as}
-use Rattle.%s.specs.Tags.{tag_at}
-use Rattle.%s.proofs.Numbers.{past, step}
-use Rattle.%s.proofs.%s.%s.Goals as goal
+use Rattle.demangle_lines_nodes.specs.Tags.{tag_at}
+use Rattle.demangle_lines_nodes.proofs.Steps.{no_tag, step}
+use Rattle.demangle_lines_nodes.proofs.%s.%s.Goals as goal
 """
 
 
@@ -29,71 +36,125 @@ def tags():
 
 
 class Choice:
-    """`functions` has for each line the function that does it, and its crate; those of equal steps are one."""
+    """`functions` has for each list of steps the function that does it, and its crate."""
 
     def __init__(self, data, functions, first_part):
         self.data, self.functions, self.first_part = data, functions, first_part
-        self.tags, self.called = tags(), set()
+        self.tags = tags()
+        self.count = -(-len(self.tags) // A_BLOCK)
 
-    def arm(self, side, number):
-        """The code of an arm, and the term of its proof."""
-        key = "%s %s" % (side, self.tags[number])
-        steps = self.data.steps.get(key)
-        same = "(ap (λ z. %s_steps (tag_at z)) c.in-%d.is)" % (side, number)
+    def arm(self, number):
+        """The code of an arm, its function and the crate of this."""
+        steps = self.data.steps.get("line " + self.tags[number])
         if not steps:
-            return "{}", "runs_as %s (record { meets = meets_done })" % same
+            return "{}", None, None
         if steps == self.first_part:
-            name, call = "part", CALL % "0, "
-            self.called.add(("demangle_lines", name))
-        else:
-            crate, name = self.functions[side == "inside", repr(steps)]
-            call = CALL % ""
-            self.called.add((crate, name))
-        return name + call, name
+            return "part(below, tree, 0, scope, ctx)", "part", "demangle_lines"
+        crate, name = self.functions[repr(steps)]
+        return "%s(below, tree, scope, ctx)" % name, name, crate
 
     def block(self, number):
-        """The lines of sixteen numbers, and the answers of the function."""
+        """A function of the lines of sixteen numbers: its code, its answers, and what it calls."""
         first = number * A_BLOCK
         numbers = range(first, min(first + A_BLOCK, len(self.tags)))
-        arms, answers, taken = [], [], set()
+        arms, answers, called = "", [], []
         for at in numbers:
-            code, proof = self.arm("line", at)
-            arms.append("        %d => %s,\n" % (at, code))
-            answers.append((at, self.answer(at, code, proof, taken)))
-        return "    match number {\n%s        _ => {}\n    }\n" % "".join(arms), answers, numbers
+            code, name, crate = self.arm(at)
+            arms += "        %d => %s,\n" % (at, code)
+            again = "-in-%d" % at if (crate, name) in called else ""
+            called.append((crate, name))
+            done = {None: "(record { meets = meets_done })", "part": "(record { meets = meets_block c.%s%s.ensures meets_done })" % (
+                name, again)}.get(name, "c.%s%s.ensures" % (name, again))
+            answers.append(("returns-in-%d" % at, "runs_as (ap (λ z. line_steps (tag_at z)) c.in-%d.is) %s" % (at, done)))
+        answers.append(("returns-in_default", default_term(numbers, len(self.tags))))
+        body = "    match number {\n%s        _ => {}\n    }\n" % arms
+        clauses = ["requires can { B.can below }", "requires block { number / %d ≡ %d }" % (A_BLOCK, number)]
+        doc = "The lines of the nodes whose tags have the numbers from %d on." % first
+        return line_code("pub(crate) fn", "block_%d" % number, doc, clauses, body), answers, [pair for pair in called if pair[0]]
 
-    def answer(self, at, code, name, taken):
-        if code == "{}":
-            return name
-        call = name if name not in taken else "%s-in-%d" % (name, at)
-        taken.add(name)
-        same = "(ap (λ z. line_steps (tag_at z)) c.in-%d.is)" % at
-        if name == "part":
-            return "runs_as %s (record { meets = meets_block c.%s.ensures meets_done })" % (same, call)
-        return "runs_as %s c.%s.ensures" % (same, call)
+    def top(self):
+        """The function that chooses the block."""
+        size, last = len(self.tags), self.count - 1
+        arms = "".join("        %d => block_%d(below, number, tree, scope, ctx),\n" % (at, at) for at in range(last))
+        body = ("    if number >= %d {\n        return;\n    }\n    match number / %d {\n%s        _ => block_%d(below, number, tree, "
+                "scope, ctx),\n    }\n") % (size, A_BLOCK, arms, last)
+        doc = "The line of a node whose tag has this number, its level entered."
+        code = line_code("pub fn", "line_by_tag", doc, ["requires { B.can below }"], body)
+        same = ["let e0 : 0 ≤ c.args.number / %d = omega arith in" % A_BLOCK]
+        same += ["let e%d = step (c.args.number / %d) %d e%d c.in_default.not-%d in" % (at + 1, A_BLOCK, at, at, at) for at in range(last)]
+        answers = [("returns-then-number-ge%d" % size, "no_tag c.args.number c.if-number-ge%d.true" % size)]
+        answers += [("returns-in-%d" % at, "c.block_%d.ensures" % at) for at in range(last)]
+        answers += [("block_%d-requires" % at, "record { can = c.requires; block = c.in-%d.is }" % at) for at in range(last)]
+        answers.append(("block_%d-requires" % last, "\n    %s\n    record { can = c.requires; block = omega (arith, e%d, c.if-number-ge%d.false) }" % (
+            "\n    ".join(same), last, size)))
+        answers.append(("returns-in_default", "c.block_%d.ensures" % last))
+        return code, answers
+
+    def files(self):
+        """All files that are written."""
+        files, modules = {}, ["blocks_%d" % at for at in range(self.count)]
+        for at, module in enumerate(modules):
+            code, answers, called = self.block(at)
+            files["src/%s.rt" % module] = "//! Lines of nodes, by the numbers of their tags.\n\n%s%s\n%s" % (
+                USES, uses_of(called), code)
+            files["proofs/%s/block_%d/Answers.antt" % (module, at)] = proof(module, "block_%d" % at, answers)
+        code, answers = self.top()
+        own = "".join("use crate::%s::block_%d;\n" % (module, at) for at, module in enumerate(modules))
+        files["src/nodes.rt"] = "//! The line of any node.\n\n%s%s%s\n%s" % (
+            USES.replace("◌≡◌, ◌/◌", "◌≡◌"), own, uses_of([]), code)
+        files["proofs/nodes/line_by_tag/Answers.antt"] = proof("nodes", "line_by_tag", answers)
+        files["specs/Tags.antt"] = tags_text(self.tags)
+        files["src/lib.rt"] = ("//! The line of any node, chosen by the number of its tag.\n#![tactic(auto)]\n\n%s\npub use nodes::line_by_tag;\n"
+                               % "".join("mod %s;\n" % module for module in sorted(modules + ["nodes"])))
+        files["specs/Lib.antt"], files["proofs/Lib.antt"] = "pub mod Tags\n", "pub mod Steps\n"
+        return files
 
 
-def block_code(name, number, body):
+def line_code(head, name, doc, clauses, body):
     done = "Runs (B.at below) %s (T.tree tree) %s (line_steps (tag_at number))" % (PAGES, SCOPE)
-    parameters = ["below: B", "number: u8", "tree: T", "scope: Option<&Scope<'_, T>>", "ctx: &mut Context<'s, '_, T, S, W>"]
-    return line_terms.function("fn", name, "The lines of the tags from %d on." % (number * A_BLOCK), parameters, "", [
-        "requires can { B.can below }", "requires block { number / %d ≡ %d }" % (A_BLOCK, number),
-        "ensures { %s }" % done], body)
+    return line_terms.function(head, name, doc, PARAMETERS, "", clauses + ["ensures { %s }" % done], body)
 
 
-def default_term(numbers):
-    """That no other number is in the block: each step leaves one number out."""
-    lines = ["let e%d : %d ≤ c.args.number = omega (arith, c.requires.block) in" % (numbers[0], numbers[0])]
+def uses_of(called):
+    crates = {"demangle_context": {"Context", "DemangleWrite"}, "demangle_lines": {"Below", "Scope", "Tree"}}
+    for crate, name in called:
+        crates.setdefault(crate, set()).add(name)
+    return "".join(line_uses.rust_use(crate, names) for crate, names in sorted(crates.items()))
+
+
+def proof(module, function, answers):
+    text = PROOF % (module, function)
+    for goal, term in answers:
+        unfolded = "unfolding tag_at line_steps\n" if "runs_as" in term else ""
+        text += "\npub %s : goal.%s\n%s%s g c = %s\n" % (goal, goal, unfolded, goal, term)
+    return text
+
+
+def default_term(numbers, size):
+    """That no other number is in the block, or that no tag has one: each step leaves one number out."""
+    lines = ["", "let e%d : %d ≤ c.args.number = omega (arith, c.requires.block) in" % (numbers[0], numbers[0])]
     for number in numbers:
         lines.append("let e%d = step c.args.number %d e%d c.in_default.not-%d in" % (number + 1, number, number, number))
-    return "\n    ".join(lines) + "\n    absurd (omega (arith, c.requires.block, e%d))" % (numbers[-1] + 1)
+    end = numbers[-1] + 1
+    found = "no_tag c.args.number e%d" % end if end == size else "absurd (omega (arith, c.requires.block, e%d))" % end
+    return "\n    ".join(lines) + "\n    " + found
 
 
-def top_code(blocks, size):
-    done = "Runs (B.at below) %s (T.tree tree) %s (line_steps (tag_at number))" % (PAGES, SCOPE)
-    arms = "".join("        %d => block_%d(below, number, tree, scope, ctx),\n" % (at, at) for at in range(blocks - 1))
-    body = ("    if number >= %d {\n        return;\n    }\n    match number / %d {\n%s        _ => block_%d(below, number, tree, "
-            "scope, ctx),\n    }\n") % (size, A_BLOCK, arms, blocks - 1)
-    parameters = ["below: B", "number: u8", "tree: T", "scope: Option<&Scope<'_, T>>", "ctx: &mut Context<'s, '_, T, S, W>"]
-    return line_terms.function("pub fn", "line_by_tag", "The line of a node whose tag has this number, its level entered.",
-                               parameters, "", ["requires { B.can below }", "ensures { %s }" % done], body)
+def tags_text(names):
+    rows = line_terms.wrapped(" ∷ ".join("Tag." + name for name in names) + " ∷ []", "    ")
+    return """-- Tags by their numbers.
+use Rattle.std.specs.Prelude.{ℕ, zero, suc, List, [], ◌∷◌}
+use Rattle.demangle_core.specs.Core.{Tag}
+
+abbrev pub all_tags : List Tag
+all_tags =
+    %s
+
+abbrev pub nth_tag : ℕ → List Tag → Tag
+nth_tag n [] = Tag.Absent
+nth_tag zero (t ∷ ts) = t
+nth_tag (suc n) (t ∷ ts) = nth_tag n ts
+
+unfoldable pub tag_at : ℕ → Tag
+tag_at n = nth_tag n all_tags
+""" % rows

@@ -15,6 +15,7 @@ import sys
 import tempfile
 
 import antt
+import line_choice
 import line_functions
 import line_uses
 import lines
@@ -100,7 +101,7 @@ def crate_of(data, name, known):
             modules.setdefault(module, []).append(function)
         except Cannot as why:
             missing.append("%s: %s" % (key, why))
-    return files_of(made, name, group, modules), missing, made
+    return files_of(made, name, group, modules), missing
 
 
 def files_of(made, name, group, modules):
@@ -160,7 +161,8 @@ def written_files(name):
 
 
 def is_written(file):
-    return bool(re.match(r"(src/(lib|(lines|choices)\w*)\.rt|specs/(Choices|Lib)\.antt|proofs/(Lib.antt|(lines|choices)\w*/.*))$", file))
+    return bool(re.match(r"(src/(lib|nodes|(lines|choices|blocks)\w*)\.rt|specs/(Choices|Lib|Tags)\.antt|"
+                         r"proofs/(Lib.antt|(lines|choices|blocks|nodes)\w*/.*))$", file))
 
 
 def formatted(name, files):
@@ -185,12 +187,22 @@ def differs(path, text):
     return not os.path.exists(path) or read(path) != text
 
 
+def choice_of(data, known):
+    """The crate that chooses a node's line, which calls those of all groups."""
+    functions = {}
+    for name, group in GROUPS.items():
+        if group != "Inside":
+            for key in lines_of(data, group):
+                functions.setdefault(repr(data.steps[key]), (name, line_functions.snake(key.split()[1])))
+    return line_choice.Choice(data, functions, FIRST_PART).files()
+
+
 def main(arguments):
     check = "--check" in arguments
-    names = [name for name in arguments if name != "--check"] or list(GROUPS)
+    names = [name for name in arguments if name != "--check"] or [*GROUPS, line_choice.CRATE]
     data, known, stale = lines.Lines(), docs(), 0
     for name in names:
-        files, missing, made = crate_of(data, name, known)
+        files, missing = (choice_of(data, known), []) if name == line_choice.CRATE else crate_of(data, name, known)
         files = formatted(name, {path: text for path, text in files.items() if is_written(path)})
         folder = os.path.join(antt.CRATES, name)
         changed = [path for path, text in files.items() if differs(os.path.join(folder, path), text)]
@@ -201,8 +213,8 @@ def main(arguments):
                 print("stale: %s/%s" % (name, path))
         if not check:
             write(folder, files, gone)
-        print("%s: %d functions, %d files changed, %d gone%s" % (
-            name, len(made.functions), len(changed), len(gone), "".join("\n  not written: " + line for line in missing)))
+        print("%s: %d files, %d changed, %d gone%s" % (
+            name, len(files), len(changed), len(gone), "".join("\n  not written: " + line for line in missing)))
     return 1 if check and stale else 0
 
 
