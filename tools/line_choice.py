@@ -90,6 +90,45 @@ class Choice:
         answers.append(("returns-in_default", "c.block_%d.ensures" % last))
         return code, answers
 
+    def inside(self):
+        """The function of what stands behind an item: its code, its answers, and what it calls."""
+        arms, answers, called = "", [], [("demangle_lines_inner", "tag_of")]
+        for at, tag in enumerate(self.tags):
+            steps = self.data.steps.get("inside " + tag)
+            if tag == "CvQualifiers":
+                steps = self.data.steps["line " + tag]
+            if steps is None and tag != "EncodingFunction":
+                continue
+            crate, name = ("demangle_lines_inner", "function_inside") if tag == "EncodingFunction" else self.behind(tag, steps)
+            call = "part(below, item, 0, scope, ctx)" if name == "part" else "%s(below, item, scope, ctx)" % name
+            again = "-in-%d" % at if (crate, name) in called else ""
+            called.append((crate, name))
+            arms += "        %d => %s,\n" % (at, call)
+            done = "c.%s%s.ensures" % (name, again)
+            same = "(sym c.in-%d.is ∙ c.tag_of-number.ensures)" % at
+            if name == "part":
+                done = "(record { meets = meets_block %s meets_done })" % done
+            lemma = "function_behind" if tag == "EncodingFunction" else "item_behind %d" % at
+            rest = "" if tag == "EncodingFunction" else " refl"
+            answers.append(("returns-in-%d" % at, "%s %s%s %s" % (lemma, same, rest, done)))
+        numbers = [goal[len("returns-in-"):] for goal, _ in answers]
+        nots = " ".join("(λ e. c.in_default.not-%s (c.tag_of-number.ensures ∙ e))" % number for number in numbers)
+        answers.append(("returns-in_default", "nothing_behind %s" % nots))
+        self.behind_numbers = [int(number) for number in numbers]
+        body = "    let number = tag_of(below, item);\n    match number {\n%s        _ => {}\n    }\n" % arms
+        done = "Inside (B.at below) %s (T.tree item) %s" % (PAGES, SCOPE)
+        parameters = ["below: B", "item: T", *PARAMETERS[3:]]
+        code = line_terms.function("pub fn", "item_inside", "What of an item stands behind, its level entered.", parameters, "",
+                                   ["requires { B.can below }", "ensures { %s }" % done], body)
+        return code, answers, called
+
+    def behind(self, tag, steps):
+        if steps == self.first_part:
+            return "demangle_lines", "part"
+        if tag == "CvQualifiers":
+            return self.functions[repr(steps)]
+        return "demangle_lines_inner", line_terms.snake(tag) + "_inside"
+
     def files(self):
         """All files that are written."""
         files, modules = {}, ["blocks_%d" % at for at in range(self.count)]
@@ -103,11 +142,78 @@ class Choice:
         files["src/nodes.rt"] = "//! The line of any node.\n\n%s%s%s\n%s" % (
             USES.replace("◌≡◌, ◌/◌", "◌≡◌"), own, uses_of([]), code)
         files["proofs/nodes/line_by_tag/Answers.antt"] = proof("nodes", "line_by_tag", answers)
+        code, answers, called = self.inside()
+        files["src/insides.rt"] = "//! What stands behind any item.\n\n%s%s\n%s" % (INSIDE_USES, uses_of(called), code)
+        files["proofs/insides/item_inside/Answers.antt"] = inside_proof(answers)
+        files["proofs/Nothing.antt"] = nothing_text(self.tags, self.behind_numbers)
         files["specs/Tags.antt"] = tags_text(self.tags)
-        files["src/lib.rt"] = ("//! The line of any node, chosen by the number of its tag.\n#![tactic(auto)]\n\n%s\npub use nodes::line_by_tag;\n"
-                               % "".join("mod %s;\n" % module for module in sorted(modules + ["nodes"])))
-        files["specs/Lib.antt"], files["proofs/Lib.antt"] = "pub mod Tags\n", "pub mod Steps\n"
+        files["src/lib.rt"] = ("//! The line of any node, chosen by the number of its tag.\n#![tactic(auto)]\n\n%s\npub use insides::item_inside;\npub use nodes::line_by_tag;\npub use trees::{leaf_inside, tree_line};\n"
+                               % "".join("mod %s;\n" % module for module in sorted(modules + ["insides", "nodes", "trees"])))
+        files["specs/Lib.antt"], files["proofs/Lib.antt"] = "pub mod Tags\n", "pub mod Steps\npub mod Behind\npub mod Nothing\npub mod TreeLines\n"
         return files
+
+
+INSIDE_USES = """ghost use Rattle.demangle_meets.specs.Meets.{Inside};
+ghost use Rattle.demangle_context.specs.PageOf.{page};
+ghost use Rattle.demangle_lines.specs.ScopeOf.{lent_scope};
+
+"""
+INSIDE_PROOF = """use Rattle.std.proofs.Common.{◌∙◌, refl, sym}
+use Rattle.demangle_printing.specs.Lines.{inside_steps, line_steps}
+use Rattle.demangle_meets.proofs.Acts.{meets_block, meets_done}
+use Rattle.demangle_lines_nodes.specs.Tags.{tag_at}
+use Rattle.demangle_lines_nodes.proofs.Behind.{function_behind, item_behind}
+use Rattle.demangle_lines_nodes.proofs.Nothing.{nothing_behind}
+use Rattle.demangle_lines_nodes.proofs.insides.item_inside.Goals as goal
+"""
+
+
+NOTHING = """-- Nothing stands behind an item of another tag.
+use Rattle.std.proofs.Common.{◌≡◌, ◌==◌, false, refl}
+use Rattle.demangle_core.specs.Core.{Core, Tag, code}
+use Rattle.demangle_printing.specs.Lines.{inside_steps}
+use Rattle.demangle_printing.specs.Rules.{tag}
+use Rattle.demangle_printing.specs.Scope.{Scope}
+use Rattle.demangle_printing.specs.Step.{Step}
+use Rattle.demangle_meets.specs.Page.{Page}
+use Rattle.demangle_meets.specs.Place.{Place, world_of}
+use Rattle.demangle_meets.specs.Meets.{Inside}
+use Rattle.demangle_meets.proofs.Acts.{meets_done}
+use Rattle.demangle_lines.proofs.Doing.{runs_as}
+use Rattle.demangle_lines_nodes.proofs.Behind.{own_steps}
+
+no_function : (t : Tag) → (code t ≡ 71 → ⊥) → (code t == 71) ≡ false
+no_function Tag.EncodingFunction h = absurd (h refl)
+no_function _ h = refl
+"""
+
+
+def nothing_text(names, numbers):
+    """The lemma on all other tags."""
+    premises = ["(%%s ≡ %d → ⊥)" % number for number in numbers]
+    proofs = ["h%d" % number for number in numbers]
+    given = " → ".join(premise % "code t" for premise in premises)
+    text = NOTHING + "\n%s\nunfolding inside_steps\n" % line_terms.wrapped(
+        "nothing_steps : (t : Tag) → %s → inside_steps t ≡ Step.done" % given, "    ")
+    for number in numbers:
+        if number != 71:
+            text += line_terms.wrapped("nothing_steps Tag.%s %s = absurd (h%d refl)" % (
+                names[number], " ".join(proofs), number), "    ") + "\n"
+    text += line_terms.wrapped("nothing_steps _ %s = refl" % " ".join(proofs), "    ") + "\n"
+    given = " → ".join(premise % "code (tag (world_of p.refers) x)" for premise in premises)
+    text += "\n" + line_terms.wrapped("pub nothing_behind : {p : Place} {a : Page} {x : Core} {sc : Scope Core} → %s → "
+                                      "Inside p a a x sc" % given, "    ")
+    return text + "\n" + line_terms.wrapped(
+        "nothing_behind {p} {x = x} %s = own_steps (no_function (tag (world_of p.refers) x) h71) (runs_as (nothing_steps "
+        "(tag (world_of p.refers) x) %s) (record { meets = meets_done }))" % (" ".join(proofs), " ".join(proofs)), "    ") + "\n"
+
+
+def inside_proof(answers):
+    text = INSIDE_PROOF
+    for goal, term in answers:
+        unfolded = "unfolding tag_at line_steps inside_steps\n" if term.startswith("item_behind") else ""
+        text += "\npub %s : goal.%s\n%s%s g c = %s\n" % (goal, goal, unfolded, goal, line_terms.wrapped(term, "    "))
+    return text
 
 
 def line_code(head, name, doc, clauses, body):

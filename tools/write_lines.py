@@ -161,8 +161,8 @@ def written_files(name):
 
 
 def is_written(file):
-    return bool(re.match(r"(src/(lib|nodes|(lines|choices|blocks)\w*)\.rt|specs/(Choices|Lib|Tags)\.antt|"
-                         r"proofs/(Lib.antt|(lines|choices|blocks|nodes)\w*/.*))$", file))
+    return bool(re.match(r"(src/(lib|nodes|insides|(lines|choices|blocks)\w*)\.rt|specs/(Choices|Lib|Tags)\.antt|"
+                         r"proofs/((?:Lib|Nothing).antt|(lines|choices|blocks|nodes|insides)\w*/.*))$", file))
 
 
 def formatted(name, files):

@@ -15,6 +15,10 @@ mod blocks_6;
 mod blocks_7;
 mod blocks_8;
 mod blocks_9;
+mod insides;
 mod nodes;
+mod trees;
 
+pub use insides::item_inside;
 pub use nodes::line_by_tag;
+pub use trees::{leaf_inside, tree_line};
