@@ -63,30 +63,35 @@ class Choice:
             arms += "        %d => %s,\n" % (at, code)
             again = "-in-%d" % at if (crate, name) in called else ""
             called.append((crate, name))
-            done = {None: "(record { meets = meets_done })", "part": "(record { meets = meets_block c.%s%s.ensures meets_done })" % (
-                name, again)}.get(name, "c.%s%s.ensures" % (name, again))
-            answers.append(("returns-in-%d" % at, "runs_as (ap (λ z. line_steps (tag_at z)) c.in-%d.is) %s" % (at, done)))
+            called_so = "c.%s%s.ensures" % (name, again)
+            done = {None: "(record { meets = meets_done })",
+                    "part": "(record { meets = meets_block %s meets_done })" % called_so}.get(name, called_so)
+            same = "(ap (λ z. line_steps (tag_at z)) c.in-%d.is)" % at
+            answers.append(("returns-in-%d" % at, "runs_as %s %s" % (same, done)))
         answers.append(("returns-in_default", default_term(numbers, len(self.tags))))
         body = "    match number {\n%s        _ => {}\n    }\n" % arms
         clauses = ["requires can { B.can below }", "requires block { number / %d ≡ %d }" % (A_BLOCK, number)]
         doc = "The lines of the nodes whose tags have the numbers from %d on." % first
-        return line_code("pub(crate) fn", "block_%d" % number, doc, clauses, body), answers, [pair for pair in called if pair[0]]
+        code = line_code("pub(crate) fn", "block_%d" % number, doc, clauses, body)
+        return code, answers, [pair for pair in called if pair[0]]
 
     def top(self):
         """The function that chooses the block."""
         size, last = len(self.tags), self.count - 1
         arms = "".join("        %d => block_%d(below, number, tree, scope, ctx),\n" % (at, at) for at in range(last))
-        body = ("    if number >= %d {\n        return;\n    }\n    match number / %d {\n%s        _ => block_%d(below, number, tree, "
-                "scope, ctx),\n    }\n") % (size, A_BLOCK, arms, last)
+        body = ("    if number >= %d {\n        return;\n    }\n    match number / %d {\n%s"
+                "        _ => block_%d(below, number, tree, scope, ctx),\n    }\n") % (size, A_BLOCK, arms, last)
         doc = "The line of a node whose tag has this number, its level entered."
         code = line_code("pub fn", "line_by_tag", doc, ["requires { B.can below }"], body)
         same = ["let e0 : 0 ≤ c.args.number / %d = omega arith in" % A_BLOCK]
-        same += ["let e%d = step (c.args.number / %d) %d e%d c.in_default.not-%d in" % (at + 1, A_BLOCK, at, at, at) for at in range(last)]
+        same += ["let e%d = step (c.args.number / %d) %d e%d c.in_default.not-%d in" % (at + 1, A_BLOCK, at, at, at)
+                 for at in range(last)]
         answers = [("returns-then-number-ge%d" % size, "no_tag c.args.number c.if-number-ge%d.true" % size)]
         answers += [("returns-in-%d" % at, "c.block_%d.ensures" % at) for at in range(last)]
-        answers += [("block_%d-requires" % at, "record { can = c.requires; block = c.in-%d.is }" % at) for at in range(last)]
-        answers.append(("block_%d-requires" % last, "\n    %s\n    record { can = c.requires; block = omega (arith, e%d, c.if-number-ge%d.false) }" % (
-            "\n    ".join(same), last, size)))
+        met = "record { can = c.requires; block = %s }"
+        answers += [("block_%d-requires" % at, met % ("c.in-%d.is" % at)) for at in range(last)]
+        left = met % ("omega (arith, e%d, c.if-number-ge%d.false)" % (last, size))
+        answers.append(("block_%d-requires" % last, "\n    %s\n    %s" % ("\n    ".join(same), left)))
         answers.append(("returns-in_default", "c.block_%d.ensures" % last))
         return code, answers
 
@@ -99,7 +104,7 @@ class Choice:
                 steps = self.data.steps["line " + tag]
             if steps is None and tag != "EncodingFunction":
                 continue
-            crate, name = ("demangle_lines_inner", "function_inside") if tag == "EncodingFunction" else self.behind(tag, steps)
+            crate, name = self.behind(tag, steps)
             call = "part(below, item, 0, scope, ctx)" if name == "part" else "%s(below, item, scope, ctx)" % name
             again = "-in-%d" % at if (crate, name) in called else ""
             called.append((crate, name))
@@ -112,17 +117,18 @@ class Choice:
             rest = "" if tag == "EncodingFunction" else " refl"
             answers.append(("returns-in-%d" % at, "%s %s%s %s" % (lemma, same, rest, done)))
         numbers = [goal[len("returns-in-"):] for goal, _ in answers]
-        nots = " ".join("(λ e. c.in_default.not-%s (c.tag_of-number.ensures ∙ e))" % number for number in numbers)
+        nots = " ".join("(λ e. c.in_default.not-%s (c.tag_of-number.ensures ∙ e))" % at for at in numbers)
         answers.append(("returns-in_default", "nothing_behind %s" % nots))
         self.behind_numbers = [int(number) for number in numbers]
         body = "    let number = tag_of(below, item);\n    match number {\n%s        _ => {}\n    }\n" % arms
         done = "Inside (B.at below) %s (T.tree item) %s" % (PAGES, SCOPE)
         parameters = ["below: B", "item: T", *PARAMETERS[3:]]
-        code = line_terms.function("pub fn", "item_inside", "What of an item stands behind, its level entered.", parameters, "",
-                                   ["requires { B.can below }", "ensures { %s }" % done], body)
-        return code, answers, called
+        doc, clauses = "What of an item stands behind, its level entered.", ["requires { B.can below }", "ensures { %s }" % done]
+        return line_terms.function("pub fn", "item_inside", doc, parameters, "", clauses, body), answers, called
 
     def behind(self, tag, steps):
+        if tag == "EncodingFunction":
+            return "demangle_lines_inner", "function_inside"
         if steps == self.first_part:
             return "demangle_lines", "part"
         if tag == "CvQualifiers":
@@ -147,12 +153,20 @@ class Choice:
         files["proofs/insides/item_inside/Answers.antt"] = inside_proof(answers)
         files["proofs/Nothing.antt"] = nothing_text(self.tags, self.behind_numbers)
         files["specs/Tags.antt"] = tags_text(self.tags)
-        files["src/lib.rt"] = ("//! The line of any node, chosen by the number of its tag.\n#![tactic(auto)]\n\n%s\npub use insides::item_inside;\npub use nodes::line_by_tag;\npub use trees::{leaf_inside, tree_line};\n"
-                               % "".join("mod %s;\n" % module for module in sorted(modules + ["insides", "nodes", "trees"])))
+        files["src/lib.rt"] = ROOT % "".join("mod %s;\n" % module for module in sorted(modules + BESIDE))
         files["specs/Lib.antt"], files["proofs/Lib.antt"] = "pub mod Tags\n", "pub mod Steps\npub mod Behind\npub mod Nothing\npub mod TreeLines\n"
         return files
 
 
+BESIDE = ["insides", "nodes", "trees"]
+ROOT = """//! The line of any node, chosen by the number of its tag, and what stands behind any item.
+#![tactic(auto)]
+
+%s
+pub use insides::item_inside;
+pub use nodes::line_by_tag;
+pub use trees::{leaf_inside, tree_line};
+"""
 INSIDE_USES = """ghost use Rattle.demangle_meets.specs.Meets.{Inside};
 ghost use Rattle.demangle_context.specs.PageOf.{page};
 ghost use Rattle.demangle_lines.specs.ScopeOf.{lent_scope};
@@ -240,7 +254,8 @@ def default_term(numbers, size):
     """That no other number is in the block, or that no tag has one: each step leaves one number out."""
     lines = ["", "let e%d : %d ≤ c.args.number = omega (arith, c.requires.block) in" % (numbers[0], numbers[0])]
     for number in numbers:
-        lines.append("let e%d = step c.args.number %d e%d c.in_default.not-%d in" % (number + 1, number, number, number))
+        lines.append("let e%d = step c.args.number %d e%d c.in_default.not-%d in" % (
+            number + 1, number, number, number))
     end = numbers[-1] + 1
     found = "no_tag c.args.number e%d" % end if end == size else "absurd (omega (arith, c.requires.block, e%d))" % end
     return "\n    ".join(lines) + "\n    " + found

@@ -112,7 +112,7 @@ def files_of(made, name, group, modules):
         code = "\n".join(entry[2] for entry in functions)
         if module == "choices":
             code = re.sub(r"^fn ", "pub(crate) fn ", code, flags=re.M)
-        about = "Lines of %s." % ABOUT[group] if module != "choices" else "Steps of which the lines of %s are made." % ABOUT[group]
+        about = ("Steps of which the lines of %s are made." if module == "choices" else "Lines of %s.") % ABOUT[group]
         files["src/%s.rt" % module] = "//! %s\n\n%s\n%s" % (about, line_uses.code_uses(name, code, made), code)
         for _, function, _, answers, invariants in functions:
             folder = "proofs/%s/%s/" % (module, function)
@@ -122,7 +122,8 @@ def files_of(made, name, group, modules):
     if made.specs:
         files["specs/Choices.antt"] = line_uses.choices(made.specs)
     files["src/lib.rt"] = root(name, group, used, modules)
-    files["specs/Lib.antt"] = "".join("pub mod %s\n" % file for file in beside(name, "specs") + ["Choices"] * bool(made.specs))
+    specs = beside(name, "specs") + ["Choices"] * bool(made.specs)
+    files["specs/Lib.antt"] = "".join("pub mod %s\n" % file for file in specs)
     files["proofs/Lib.antt"] = "".join("pub mod %s\n" % file for file in beside(name, "proofs"))
     return files
 

@@ -1,4 +1,4 @@
-//! The line of any node, chosen by the number of its tag.
+//! The line of any node, chosen by the number of its tag, and what stands behind any item.
 #![tactic(auto)]
 
 mod blocks_0;
