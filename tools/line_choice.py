@@ -23,7 +23,7 @@ use Rattle.demangle_printing.specs.Lines.{line_steps}
 use Rattle.demangle_meets.proofs.Acts.{meets_block, meets_done}
 use Rattle.demangle_lines.proofs.Doing.{runs_as}
 use Rattle.demangle_lines_nodes.specs.Tags.{tag_at}
-use Rattle.demangle_lines_nodes.proofs.Steps.{no_tag, step}
+use Rattle.demangle_lines_nodes.proofs.Steps.{no_tag}
 use Rattle.demangle_lines_nodes.proofs.%s.%s.Goals as goal
 """
 
@@ -66,8 +66,9 @@ class Choice:
             called_so = "c.%s%s.ensures" % (name, again)
             done = {None: "(record { meets = meets_done })",
                     "part": "(record { meets = meets_block %s meets_done })" % called_so}.get(name, called_so)
+            own = name == line_terms.snake(self.tags[at])
             same = "(ap (λ z. line_steps (tag_at z)) c.in-%d.is)" % at
-            answers.append(("returns-in-%d" % at, "runs_as %s %s" % (same, done)))
+            answers.append(("returns-in-%d" % at, "%s %s %s" % ("runs_own" if own else "runs_as", same, done)))
         answers.append(("returns-in_default", default_term(numbers, len(self.tags))))
         body = "    match number {\n%s        _ => {}\n    }\n" % arms
         clauses = ["requires can { B.can below }", "requires block { number / %d ≡ %d }" % (A_BLOCK, number)]
@@ -83,15 +84,12 @@ class Choice:
                 "        _ => block_%d(below, number, tree, scope, ctx),\n    }\n") % (size, A_BLOCK, arms, last)
         doc = "The line of a node whose tag has this number, its level entered."
         code = line_code("pub fn", "line_by_tag", doc, ["requires { B.can below }"], body)
-        same = ["let e0 : 0 ≤ c.args.number / %d = omega arith in" % A_BLOCK]
-        same += ["let e%d = step (c.args.number / %d) %d e%d c.in_default.not-%d in" % (at + 1, A_BLOCK, at, at, at)
-                 for at in range(last)]
         answers = [("returns-then-number-ge%d" % size, "no_tag c.args.number c.if-number-ge%d.true" % size)]
         answers += [("returns-in-%d" % at, "c.block_%d.ensures" % at) for at in range(last)]
         met = "record { can = c.requires; block = %s }"
         answers += [("block_%d-requires" % at, met % ("c.in-%d.is" % at)) for at in range(last)]
-        left = met % ("omega (arith, e%d, c.if-number-ge%d.false)" % (last, size))
-        answers.append(("block_%d-requires" % last, "\n    %s\n    %s" % ("\n    ".join(same), left)))
+        left = met % ("omega (arith, c.in_default, c.if-number-ge%d.false)" % size)
+        answers.append(("block_%d-requires" % last, left))
         answers.append(("returns-in_default", "c.block_%d.ensures" % last))
         return code, answers
 
@@ -117,7 +115,7 @@ class Choice:
             rest = "" if tag == "EncodingFunction" else " refl"
             answers.append(("returns-in-%d" % at, "%s %s%s %s" % (lemma, same, rest, done)))
         numbers = [goal[len("returns-in-"):] for goal, _ in answers]
-        nots = " ".join("(λ e. c.in_default.not-%s (c.tag_of-number.ensures ∙ e))" % at for at in numbers)
+        nots = " ".join("(λ e. omega (arith, c.in_default, c.tag_of-number.ensures, e))" for _ in numbers)
         answers.append(("returns-in_default", "nothing_behind %s" % nots))
         self.behind_numbers = [int(number) for number in numbers]
         body = "    let number = tag_of(below, item);\n    match number {\n%s        _ => {}\n    }\n" % arms
@@ -245,20 +243,16 @@ def uses_of(called):
 def proof(module, function, answers):
     text = PROOF % (module, function)
     for goal, term in answers:
-        unfolded = "unfolding tag_at line_steps\n" if "runs_as" in term else ""
+        unfolded = {"runs_as": "unfolding tag_at line_steps\n", "runs_own": "unfolding tag_at\n"}.get(term.split()[0], "")
+        term = term.replace("runs_own", "runs_as")
         text += "\npub %s : goal.%s\n%s%s g c = %s\n" % (goal, goal, unfolded, goal, term)
     return text
 
 
 def default_term(numbers, size):
-    """That no other number is in the block, or that no tag has one: each step leaves one number out."""
-    lines = ["", "let e%d : %d ≤ c.args.number = omega (arith, c.requires.block) in" % (numbers[0], numbers[0])]
-    for number in numbers:
-        lines.append("let e%d = step c.args.number %d e%d c.in_default.not-%d in" % (
-            number + 1, number, number, number))
-    end = numbers[-1] + 1
-    found = "no_tag c.args.number e%d" % end if end == size else "absurd (omega (arith, c.requires.block, e%d))" % end
-    return "\n    ".join(lines) + "\n    " + found
+    """That no other number is in the block, or that no tag has one."""
+    found = "omega (arith, c.requires.block, c.in_default)"
+    return ("no_tag c.args.number (%s)" if numbers[-1] + 1 == size else "absurd (%s)") % found
 
 
 def tags_text(names):

@@ -1,4 +1,4 @@
--- Numbers that are left out one after the other.
+-- Numbers that no tag has.
 use Rattle.std.proofs.Common.{◌≡◌, ℕ, zero, suc, ◌+◌, ◌≤◌, List, [], ◌∷◌, length, refl, sym, ap, arith}
 use Rattle.demangle_core.specs.Core.{Core, Tag}
 use Rattle.demangle_printing.specs.Lines.{line_steps}
@@ -10,9 +10,6 @@ use Rattle.demangle_meets.proofs.Acts.{meets_done}
 use Rattle.demangle_lines.specs.Does.{Runs}
 use Rattle.demangle_lines.proofs.Doing.{runs_as}
 use Rattle.demangle_lines_nodes.specs.Tags.{all_tags, nth_tag, tag_at}
-
-pub step : (n k : ℕ) → k ≤ n → (n ≡ k → ⊥) → k + 1 ≤ n
-step n k h e = omega (arith, h, e)
 
 past : (n : ℕ) (ts : List Tag) → length ts ≤ n → nth_tag n ts ≡ Tag.Absent
 past n [] h = refl

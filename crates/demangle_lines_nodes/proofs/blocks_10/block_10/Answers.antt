@@ -3,31 +3,31 @@ use Rattle.demangle_printing.specs.Lines.{line_steps}
 use Rattle.demangle_meets.proofs.Acts.{meets_block, meets_done}
 use Rattle.demangle_lines.proofs.Doing.{runs_as}
 use Rattle.demangle_lines_nodes.specs.Tags.{tag_at}
-use Rattle.demangle_lines_nodes.proofs.Steps.{no_tag, step}
+use Rattle.demangle_lines_nodes.proofs.Steps.{no_tag}
 use Rattle.demangle_lines_nodes.proofs.blocks_10.block_10.Goals as goal
 
 pub returns-in-160 : goal.returns-in-160
-unfolding tag_at line_steps
+unfolding tag_at
 returns-in-160 g c = runs_as (ap (λ z. line_steps (tag_at z)) c.in-160.is) c.special_name_transaction_clone.ensures
 
 pub returns-in-161 : goal.returns-in-161
-unfolding tag_at line_steps
+unfolding tag_at
 returns-in-161 g c = runs_as (ap (λ z. line_steps (tag_at z)) c.in-161.is) c.special_name_non_transaction_clone.ensures
 
 pub returns-in-162 : goal.returns-in-162
-unfolding tag_at line_steps
+unfolding tag_at
 returns-in-162 g c = runs_as (ap (λ z. line_steps (tag_at z)) c.in-162.is) c.subobject_expr.ensures
 
 pub returns-in-163 : goal.returns-in-163
-unfolding tag_at line_steps
+unfolding tag_at
 returns-in-163 g c = runs_as (ap (λ z. line_steps (tag_at z)) c.in-163.is) c.fold_expr_unary_left.ensures
 
 pub returns-in-164 : goal.returns-in-164
-unfolding tag_at line_steps
+unfolding tag_at
 returns-in-164 g c = runs_as (ap (λ z. line_steps (tag_at z)) c.in-164.is) c.fold_expr_unary_right.ensures
 
 pub returns-in-165 : goal.returns-in-165
-unfolding tag_at line_steps
+unfolding tag_at
 returns-in-165 g c = runs_as (ap (λ z. line_steps (tag_at z)) c.in-165.is) c.fold_expr_binary_left.ensures
 
 pub returns-in-166 : goal.returns-in-166
@@ -35,7 +35,7 @@ unfolding tag_at line_steps
 returns-in-166 g c = runs_as (ap (λ z. line_steps (tag_at z)) c.in-166.is) c.fold_expr_binary_left-in-166.ensures
 
 pub returns-in-167 : goal.returns-in-167
-unfolding tag_at line_steps
+unfolding tag_at
 returns-in-167 g c = runs_as (ap (λ z. line_steps (tag_at z)) c.in-167.is) c.decltype_id_expression.ensures
 
 pub returns-in-168 : goal.returns-in-168
@@ -43,15 +43,15 @@ unfolding tag_at line_steps
 returns-in-168 g c = runs_as (ap (λ z. line_steps (tag_at z)) c.in-168.is) c.decltype_id_expression-in-168.ensures
 
 pub returns-in-169 : goal.returns-in-169
-unfolding tag_at line_steps
+unfolding tag_at
 returns-in-169 g c = runs_as (ap (λ z. line_steps (tag_at z)) c.in-169.is) c.prefix_unqualified.ensures
 
 pub returns-in-170 : goal.returns-in-170
-unfolding tag_at line_steps
+unfolding tag_at
 returns-in-170 g c = runs_as (ap (λ z. line_steps (tag_at z)) c.in-170.is) c.prefix_nested.ensures
 
 pub returns-in-171 : goal.returns-in-171
-unfolding tag_at line_steps
+unfolding tag_at
 returns-in-171 g c = runs_as (ap (λ z. line_steps (tag_at z)) c.in-171.is) c.prefix_template.ensures
 
 pub returns-in-172 : goal.returns-in-172
@@ -71,22 +71,4 @@ unfolding tag_at line_steps
 returns-in-175 g c = runs_as (ap (λ z. line_steps (tag_at z)) c.in-175.is) c.type_node_qualified.ensures
 
 pub returns-in_default : goal.returns-in_default
-returns-in_default g c =
-    let e160 : 160 ≤ c.args.number = omega (arith, c.requires.block) in
-    let e161 = step c.args.number 160 e160 c.in_default.not-160 in
-    let e162 = step c.args.number 161 e161 c.in_default.not-161 in
-    let e163 = step c.args.number 162 e162 c.in_default.not-162 in
-    let e164 = step c.args.number 163 e163 c.in_default.not-163 in
-    let e165 = step c.args.number 164 e164 c.in_default.not-164 in
-    let e166 = step c.args.number 165 e165 c.in_default.not-165 in
-    let e167 = step c.args.number 166 e166 c.in_default.not-166 in
-    let e168 = step c.args.number 167 e167 c.in_default.not-167 in
-    let e169 = step c.args.number 168 e168 c.in_default.not-168 in
-    let e170 = step c.args.number 169 e169 c.in_default.not-169 in
-    let e171 = step c.args.number 170 e170 c.in_default.not-170 in
-    let e172 = step c.args.number 171 e171 c.in_default.not-171 in
-    let e173 = step c.args.number 172 e172 c.in_default.not-172 in
-    let e174 = step c.args.number 173 e173 c.in_default.not-173 in
-    let e175 = step c.args.number 174 e174 c.in_default.not-174 in
-    let e176 = step c.args.number 175 e175 c.in_default.not-175 in
-    absurd (omega (arith, c.requires.block, e176))
+returns-in_default g c = absurd (omega (arith, c.requires.block, c.in_default))

@@ -3,7 +3,7 @@ use Rattle.demangle_printing.specs.Lines.{line_steps}
 use Rattle.demangle_meets.proofs.Acts.{meets_block, meets_done}
 use Rattle.demangle_lines.proofs.Doing.{runs_as}
 use Rattle.demangle_lines_nodes.specs.Tags.{tag_at}
-use Rattle.demangle_lines_nodes.proofs.Steps.{no_tag, step}
+use Rattle.demangle_lines_nodes.proofs.Steps.{no_tag}
 use Rattle.demangle_lines_nodes.proofs.blocks_11.block_11.Goals as goal
 
 pub returns-in-176 : goal.returns-in-176
@@ -27,27 +27,27 @@ unfolding tag_at line_steps
 returns-in-180 g c = runs_as (ap (λ z. line_steps (tag_at z)) c.in-180.is) (record { meets = meets_block c.part.ensures meets_done })
 
 pub returns-in-181 : goal.returns-in-181
-unfolding tag_at line_steps
+unfolding tag_at
 returns-in-181 g c = runs_as (ap (λ z. line_steps (tag_at z)) c.in-181.is) c.class_enum_type_elaborated_struct.ensures
 
 pub returns-in-182 : goal.returns-in-182
-unfolding tag_at line_steps
+unfolding tag_at
 returns-in-182 g c = runs_as (ap (λ z. line_steps (tag_at z)) c.in-182.is) c.class_enum_type_elaborated_union.ensures
 
 pub returns-in-183 : goal.returns-in-183
-unfolding tag_at line_steps
+unfolding tag_at
 returns-in-183 g c = runs_as (ap (λ z. line_steps (tag_at z)) c.in-183.is) c.class_enum_type_elaborated_enum.ensures
 
 pub returns-in-184 : goal.returns-in-184
-unfolding tag_at line_steps
+unfolding tag_at
 returns-in-184 g c = runs_as (ap (λ z. line_steps (tag_at z)) c.in-184.is) c.exception_spec_no_except.ensures
 
 pub returns-in-185 : goal.returns-in-185
-unfolding tag_at line_steps
+unfolding tag_at
 returns-in-185 g c = runs_as (ap (λ z. line_steps (tag_at z)) c.in-185.is) c.exception_spec_computed.ensures
 
 pub returns-in-186 : goal.returns-in-186
-unfolding tag_at line_steps
+unfolding tag_at
 returns-in-186 g c = runs_as (ap (λ z. line_steps (tag_at z)) c.in-186.is) c.function_type.ensures
 
 pub returns-in-187 : goal.returns-in-187
@@ -71,22 +71,4 @@ unfolding tag_at line_steps
 returns-in-191 g c = runs_as (ap (λ z. line_steps (tag_at z)) c.in-191.is) (record { meets = meets_block c.part-in-191.ensures meets_done })
 
 pub returns-in_default : goal.returns-in_default
-returns-in_default g c =
-    let e176 : 176 ≤ c.args.number = omega (arith, c.requires.block) in
-    let e177 = step c.args.number 176 e176 c.in_default.not-176 in
-    let e178 = step c.args.number 177 e177 c.in_default.not-177 in
-    let e179 = step c.args.number 178 e178 c.in_default.not-178 in
-    let e180 = step c.args.number 179 e179 c.in_default.not-179 in
-    let e181 = step c.args.number 180 e180 c.in_default.not-180 in
-    let e182 = step c.args.number 181 e181 c.in_default.not-181 in
-    let e183 = step c.args.number 182 e182 c.in_default.not-182 in
-    let e184 = step c.args.number 183 e183 c.in_default.not-183 in
-    let e185 = step c.args.number 184 e184 c.in_default.not-184 in
-    let e186 = step c.args.number 185 e185 c.in_default.not-185 in
-    let e187 = step c.args.number 186 e186 c.in_default.not-186 in
-    let e188 = step c.args.number 187 e187 c.in_default.not-187 in
-    let e189 = step c.args.number 188 e188 c.in_default.not-188 in
-    let e190 = step c.args.number 189 e189 c.in_default.not-189 in
-    let e191 = step c.args.number 190 e190 c.in_default.not-190 in
-    let e192 = step c.args.number 191 e191 c.in_default.not-191 in
-    absurd (omega (arith, c.requires.block, e192))
+returns-in_default g c = absurd (omega (arith, c.requires.block, c.in_default))

@@ -65,11 +65,36 @@ unfolding tag_at line_steps inside_steps
 returns-in-199 g c = item_behind 199 (sym c.in-199.is ∙ c.tag_of-number.ensures) refl c.type_node_rvalue_ref_inside.ensures
 
 pub returns-in_default : goal.returns-in_default
-returns-in_default g c = nothing_behind (λ e. c.in_default.not-17 (c.tag_of-number.ensures ∙ e)) (λ e. c.in_default.not-50
-    (c.tag_of-number.ensures ∙ e)) (λ e. c.in_default.not-53 (c.tag_of-number.ensures ∙ e)) (λ e. c.in_default.not-71
-    (c.tag_of-number.ensures ∙ e)) (λ e. c.in_default.not-175 (c.tag_of-number.ensures ∙ e)) (λ e.
-    c.in_default.not-176 (c.tag_of-number.ensures ∙ e)) (λ e. c.in_default.not-177 (c.tag_of-number.ensures ∙ e)) (λ
-    e. c.in_default.not-178 (c.tag_of-number.ensures ∙ e)) (λ e. c.in_default.not-179 (c.tag_of-number.ensures ∙ e))
-    (λ e. c.in_default.not-186 (c.tag_of-number.ensures ∙ e)) (λ e. c.in_default.not-195 (c.tag_of-number.ensures ∙
-    e)) (λ e. c.in_default.not-197 (c.tag_of-number.ensures ∙ e)) (λ e. c.in_default.not-198 (c.tag_of-number.ensures
-    ∙ e)) (λ e. c.in_default.not-199 (c.tag_of-number.ensures ∙ e))
+returns-in_default g c = nothing_behind (λ e. omega (arith, c.in_default, c.tag_of-number.ensures, e)) (λ e. omega (
+  arith,
+  c.in_default,
+  c.tag_of-number.ensures,
+  e,
+)) (λ e. omega (arith, c.in_default, c.tag_of-number.ensures, e)) (λ e. omega (
+  arith,
+  c.in_default,
+  c.tag_of-number.ensures,
+  e,
+)) (λ e. omega (arith, c.in_default, c.tag_of-number.ensures, e)) (λ e.
+    omega (arith, c.in_default, c.tag_of-number.ensures, e)) (λ e. omega (
+      arith,
+      c.in_default,
+      c.tag_of-number.ensures,
+      e,
+    )) (λ e. omega (arith, c.in_default, c.tag_of-number.ensures, e)) (λ e. omega (
+      arith,
+      c.in_default,
+      c.tag_of-number.ensures,
+      e,
+    )) (λ e. omega (arith, c.in_default, c.tag_of-number.ensures, e)) (λ e.
+    omega (arith, c.in_default, c.tag_of-number.ensures, e)) (λ e. omega (
+      arith,
+      c.in_default,
+      c.tag_of-number.ensures,
+      e,
+    )) (λ e. omega (arith, c.in_default, c.tag_of-number.ensures, e)) (λ e. omega (
+      arith,
+      c.in_default,
+      c.tag_of-number.ensures,
+      e,
+    ))

@@ -3,7 +3,7 @@ use Rattle.demangle_printing.specs.Lines.{line_steps}
 use Rattle.demangle_meets.proofs.Acts.{meets_block, meets_done}
 use Rattle.demangle_lines.proofs.Doing.{runs_as}
 use Rattle.demangle_lines_nodes.specs.Tags.{tag_at}
-use Rattle.demangle_lines_nodes.proofs.Steps.{no_tag, step}
+use Rattle.demangle_lines_nodes.proofs.Steps.{no_tag}
 use Rattle.demangle_lines_nodes.proofs.nodes.line_by_tag.Goals as goal
 
 pub returns-then-number-ge211 : goal.returns-then-number-ge211
@@ -88,22 +88,7 @@ pub block_12-requires : goal.block_12-requires
 block_12-requires g c = record { can = c.requires; block = c.in-12.is }
 
 pub block_13-requires : goal.block_13-requires
-block_13-requires g c =
-    let e0 : 0 ≤ c.args.number / 16 = omega arith in
-    let e1 = step (c.args.number / 16) 0 e0 c.in_default.not-0 in
-    let e2 = step (c.args.number / 16) 1 e1 c.in_default.not-1 in
-    let e3 = step (c.args.number / 16) 2 e2 c.in_default.not-2 in
-    let e4 = step (c.args.number / 16) 3 e3 c.in_default.not-3 in
-    let e5 = step (c.args.number / 16) 4 e4 c.in_default.not-4 in
-    let e6 = step (c.args.number / 16) 5 e5 c.in_default.not-5 in
-    let e7 = step (c.args.number / 16) 6 e6 c.in_default.not-6 in
-    let e8 = step (c.args.number / 16) 7 e7 c.in_default.not-7 in
-    let e9 = step (c.args.number / 16) 8 e8 c.in_default.not-8 in
-    let e10 = step (c.args.number / 16) 9 e9 c.in_default.not-9 in
-    let e11 = step (c.args.number / 16) 10 e10 c.in_default.not-10 in
-    let e12 = step (c.args.number / 16) 11 e11 c.in_default.not-11 in
-    let e13 = step (c.args.number / 16) 12 e12 c.in_default.not-12 in
-    record { can = c.requires; block = omega (arith, e13, c.if-number-ge211.false) }
+block_13-requires g c = record { can = c.requires; block = omega (arith, c.in_default, c.if-number-ge211.false) }
 
 pub returns-in_default : goal.returns-in_default
 returns-in_default g c = c.block_13.ensures
