@@ -18,7 +18,7 @@ ghost use Rattle.demangle_lines.specs.ScopeOf.{lent_scope};
 ghost use Rattle.demangle_lines_nodes.specs.Tags.{tag_at};
 
 """
-PROOF = """use Rattle.std.proofs.Common.{◌≡◌, ◌/◌, ◌+◌, ◌<◌, ◌≤◌, ap, arith}
+PROOF = """use Rattle.std.proofs.Common.{◌≡◌, ◌/◌, ◌+◌, ◌<◌, ◌≤◌, ap, arith, refl}
 use Rattle.demangle_printing.specs.Lines.{line_steps}
 use Rattle.demangle_meets.proofs.Acts.{meets_block, meets_done}
 use Rattle.demangle_lines.proofs.Doing.{runs_as}
@@ -86,7 +86,7 @@ class Choice:
         code = line_code("pub fn", "line_by_tag", doc, ["requires { B.can below }"], body)
         answers = [("returns-then-number-ge%d" % size, "no_tag c.args.number c.if-number-ge%d.true" % size)]
         answers += [("returns-in-%d" % at, "c.block_%d.ensures" % at) for at in range(last)]
-        met = "record { can = c.requires; block = %s }"
+        met = "λ k. ((refl, tt), (c.requires, %s))"
         answers += [("block_%d-requires" % at, met % ("c.in-%d.is" % at)) for at in range(last)]
         left = met % ("omega (arith, c.in_default, c.if-number-ge%d.false)" % size)
         answers.append(("block_%d-requires" % last, left))
@@ -170,7 +170,7 @@ ghost use Rattle.demangle_context.specs.PageOf.{page};
 ghost use Rattle.demangle_lines.specs.ScopeOf.{lent_scope};
 
 """
-INSIDE_PROOF = """use Rattle.std.proofs.Common.{◌∙◌, refl, sym}
+INSIDE_PROOF = """use Rattle.std.proofs.Common.{◌≡◌, ◌∙◌, arith, refl, sym}
 use Rattle.demangle_printing.specs.Lines.{inside_steps, line_steps}
 use Rattle.demangle_meets.proofs.Acts.{meets_block, meets_done}
 use Rattle.demangle_lines_nodes.specs.Tags.{tag_at}

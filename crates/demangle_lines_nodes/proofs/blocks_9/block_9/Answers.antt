@@ -1,4 +1,4 @@
-use Rattle.std.proofs.Common.{◌≡◌, ◌/◌, ◌+◌, ◌<◌, ◌≤◌, ap, arith}
+use Rattle.std.proofs.Common.{◌≡◌, ◌/◌, ◌+◌, ◌<◌, ◌≤◌, ap, arith, refl}
 use Rattle.demangle_printing.specs.Lines.{line_steps}
 use Rattle.demangle_meets.proofs.Acts.{meets_block, meets_done}
 use Rattle.demangle_lines.proofs.Doing.{runs_as}

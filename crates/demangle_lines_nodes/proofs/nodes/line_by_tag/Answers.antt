@@ -1,4 +1,4 @@
-use Rattle.std.proofs.Common.{◌≡◌, ◌/◌, ◌+◌, ◌<◌, ◌≤◌, ap, arith}
+use Rattle.std.proofs.Common.{◌≡◌, ◌/◌, ◌+◌, ◌<◌, ◌≤◌, ap, arith, refl}
 use Rattle.demangle_printing.specs.Lines.{line_steps}
 use Rattle.demangle_meets.proofs.Acts.{meets_block, meets_done}
 use Rattle.demangle_lines.proofs.Doing.{runs_as}
@@ -49,46 +49,46 @@ pub returns-in-12 : goal.returns-in-12
 returns-in-12 g c = c.block_12.ensures
 
 pub block_0-requires : goal.block_0-requires
-block_0-requires g c = record { can = c.requires; block = c.in-0.is }
+block_0-requires g c = λ k. ((refl, tt), (c.requires, c.in-0.is))
 
 pub block_1-requires : goal.block_1-requires
-block_1-requires g c = record { can = c.requires; block = c.in-1.is }
+block_1-requires g c = λ k. ((refl, tt), (c.requires, c.in-1.is))
 
 pub block_2-requires : goal.block_2-requires
-block_2-requires g c = record { can = c.requires; block = c.in-2.is }
+block_2-requires g c = λ k. ((refl, tt), (c.requires, c.in-2.is))
 
 pub block_3-requires : goal.block_3-requires
-block_3-requires g c = record { can = c.requires; block = c.in-3.is }
+block_3-requires g c = λ k. ((refl, tt), (c.requires, c.in-3.is))
 
 pub block_4-requires : goal.block_4-requires
-block_4-requires g c = record { can = c.requires; block = c.in-4.is }
+block_4-requires g c = λ k. ((refl, tt), (c.requires, c.in-4.is))
 
 pub block_5-requires : goal.block_5-requires
-block_5-requires g c = record { can = c.requires; block = c.in-5.is }
+block_5-requires g c = λ k. ((refl, tt), (c.requires, c.in-5.is))
 
 pub block_6-requires : goal.block_6-requires
-block_6-requires g c = record { can = c.requires; block = c.in-6.is }
+block_6-requires g c = λ k. ((refl, tt), (c.requires, c.in-6.is))
 
 pub block_7-requires : goal.block_7-requires
-block_7-requires g c = record { can = c.requires; block = c.in-7.is }
+block_7-requires g c = λ k. ((refl, tt), (c.requires, c.in-7.is))
 
 pub block_8-requires : goal.block_8-requires
-block_8-requires g c = record { can = c.requires; block = c.in-8.is }
+block_8-requires g c = λ k. ((refl, tt), (c.requires, c.in-8.is))
 
 pub block_9-requires : goal.block_9-requires
-block_9-requires g c = record { can = c.requires; block = c.in-9.is }
+block_9-requires g c = λ k. ((refl, tt), (c.requires, c.in-9.is))
 
 pub block_10-requires : goal.block_10-requires
-block_10-requires g c = record { can = c.requires; block = c.in-10.is }
+block_10-requires g c = λ k. ((refl, tt), (c.requires, c.in-10.is))
 
 pub block_11-requires : goal.block_11-requires
-block_11-requires g c = record { can = c.requires; block = c.in-11.is }
+block_11-requires g c = λ k. ((refl, tt), (c.requires, c.in-11.is))
 
 pub block_12-requires : goal.block_12-requires
-block_12-requires g c = record { can = c.requires; block = c.in-12.is }
+block_12-requires g c = λ k. ((refl, tt), (c.requires, c.in-12.is))
 
 pub block_13-requires : goal.block_13-requires
-block_13-requires g c = record { can = c.requires; block = omega (arith, c.in_default, c.if-number-ge211.false) }
+block_13-requires g c = λ k. ((refl, tt), (c.requires, omega (arith, c.in_default, c.if-number-ge211.false)))
 
 pub returns-in_default : goal.returns-in_default
 returns-in_default g c = c.block_13.ensures
