@@ -120,7 +120,8 @@ pub fn part_of_part<'s, T: Tree<S>, S: 's, W: DemangleWrite, B: Below<'s, T, S, 
     first: usize,
     second: usize,
 ) -> Option<T>
-    ensures { option_map T.tree result ≡ find (world_of (B.at below).refers) (Some (T.tree tree)) (first ∷ second ∷ []) }
+    ensures { option_map T.tree result ≡ find (world_of (B.at below).refers) (Some (T.tree tree))
+        (first ∷ second ∷ []) }
 {
     match part_at(below, tree, first) {
         None => None,
@@ -137,7 +138,8 @@ pub fn part_of_parts<'s, T: Tree<S>, S: 's, W: DemangleWrite, B: Below<'s, T, S,
     second: usize,
     third: usize,
 ) -> Option<T>
-    ensures { option_map T.tree result ≡ find (world_of (B.at below).refers) (Some (T.tree tree)) (first ∷ second ∷ third ∷ []) }
+    ensures { option_map T.tree result ≡ find (world_of (B.at below).refers) (Some (T.tree tree))
+        (first ∷ second ∷ third ∷ []) }
 {
     match part_of_part(below, tree, first, second) {
         None => None,

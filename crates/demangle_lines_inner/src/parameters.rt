@@ -23,7 +23,8 @@ use demangle_lines::{
     part_at, part_of_part, prefix_arguments_at,
 };
 
-/// Goes through all items that wait, from the top: keeps those that stand behind the parameters, and prints what of each other one stands behind.
+/// Goes through all items that wait, from the top: keeps those that stand behind the parameters, and prints what of
+/// each other one stands behind.
 fn sift<'s, T: Tree<S>, S: 's, W: DemangleWrite, B: Below<'s, T, S, W>>(
     below: B,
     scope: Option<&Scope<'_, T>>,
@@ -202,7 +203,8 @@ ensures { option_map T.tree result ≡ args_of (world_of (B.at below).refers) as
     }
 }
 
-/// What of a function stands behind its name, its level entered: its parameters, where template arguments of its name are in scope and the first type, its result, is left out.
+/// What of a function stands behind its name, its level entered: its parameters, where template arguments of its name
+/// are in scope and the first type, its result, is left out.
 pub fn function_inside<'s, T: Tree<S>, S: 's, W: DemangleWrite, B: Below<'s, T, S, W>>(
     below: B,
     tree: T,
