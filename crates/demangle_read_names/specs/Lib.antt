@@ -1,0 +1,3 @@
+pub mod NameStarts
+pub mod Blocks
+pub mod Temporaries

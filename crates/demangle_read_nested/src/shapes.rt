@@ -1,0 +1,74 @@
+//! What the trees of indexes are, read back from their cells.
+
+ghost use Rattle.std.specs.Prelude.{◌≡◌, ℕ, List, true, IfErr, IfOk};
+ghost use Rattle.demangle_text.specs.declared.error.Error.TheVariants.{OutOfMemory};
+ghost use Rattle.demangle_core.specs.Core.{Core, node};
+ghost use Rattle.demangle_grammar.specs.Reading.{is_numbered};
+ghost use Rattle.demangle_cells.specs.Cells.{tree};
+ghost use Rattle.demangle_cells.specs.Tags.{tag_of};
+ghost use Rattle.demangle_cells.specs.View.{view, Holds};
+ghost use Rattle.demangle_read_nested.specs.Shapes.{is_node};
+
+use demangle_cells::{Arena, Cell, Tag};
+use demangle_text::{Error, Result};
+
+/// Whether the tree is certainly a node.
+pub fn is_node(arena: &Arena, id: u32) -> bool
+    ensures { result ≡ true → (F : ℕ → Core) → Holds F (view arena.now) → is_node (F id) ≡ true }
+{
+    match arena.cell(id) {
+        Some(cell) => is_node_cell(cell),
+        None => false,
+    }
+}
+
+/// Whether the cell is a node.
+fn is_node_cell(cell: Cell) -> bool
+    ensures { (F : ℕ → Core) (list : List ℕ) → result ≡ is_node (tree F list cell) }
+{
+    match cell {
+        Cell::Place(_, _) | Cell::Number(_) | Cell::Word(_, _) | Cell::Flag(_) => false,
+        _ => true,
+    }
+}
+
+/// Whether template arguments may follow a prefix: behind a well-known or a numbered component. `OutOfMemory` where it
+/// is no known index.
+pub fn is_numbered(arena: &Arena, prefix: u32) -> Result<bool>
+    ensures numbered { IfOk result (λ r. (F : ℕ → Core) → Holds F (view arena.now) → r ≡ is_numbered (F prefix)) }
+    ensures refused { IfErr result (λ e. e ≡ OutOfMemory) }
+{
+    match arena.cell(prefix) {
+        Some(cell) => Ok(is_numbered_cell(cell)),
+        None => Err(Error::OutOfMemory),
+    }
+}
+
+/// Whether the cell is a well-known or a numbered component.
+fn is_numbered_cell(cell: Cell) -> bool
+    ensures { (F : ℕ → Core) (list : List ℕ) → result ≡ is_numbered (tree F list cell) }
+{
+    match cell {
+        Cell::Reference(_) => true,
+        Cell::Named(tag, _, _)
+        | Cell::Empty(tag)
+        | Cell::One(tag, _)
+        | Cell::Two(tag, _, _)
+        | Cell::Three(tag, _, _, _)
+        | Cell::Many(tag, _, _)
+        | Cell::Text(tag, _, _)
+        | Cell::Count(tag, _)
+        | Cell::EmptyList(tag) => is_numbered_tag(tag),
+        _ => false,
+    }
+}
+
+/// Whether it is the tag of a well-known or a numbered component.
+fn is_numbered_tag(tag: Tag) -> bool
+    ensures { (c n : Core) → result ≡ is_numbered (node (tag_of tag) c n) }
+{
+    match tag {
+        Tag::WellKnown | Tag::BackReference => true,
+        _ => false,
+    }
+}
