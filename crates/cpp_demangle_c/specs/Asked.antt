@@ -1,5 +1,6 @@
 -- What a call asks for: the options in the library's words, and the answer of a name under them.
-use Rattle.std.specs.Prelude.{◌≡◌, ℕ, ◌<◌, ◌==◌, ◌^◌, ◌-◌, if◌then◌else◌, List, Option, Some, None, Result, Ok, Err, Vec}
+use Rattle.std.specs.Prelude.{◌≡◌, ℕ, ◌<◌, ◌==◌, ◌^◌, ◌-◌, if◌then◌else◌, List, Option, Some, None, Result, Ok, Err}
+use Rattle.std.specs.Prelude.{Vec}
 use Rattle.std.specs.declared.alloc.Global.{Global}
 use Rattle.demangle_printing.specs.Outcome.{Options, outcome}
 use Rattle.cpp_demangle.specs.Answer.{answer_of}

@@ -23,4 +23,5 @@ GivesPart text at result new read = (F : ℕ → Core) → Holds F new → Gives
 abbrev pub ReadsBlock : Text → part.Part → Answer → (old new : View) → Type 0
 ReadsBlock text encoding result old new =
     (F : ℕ → Core) → Holds F new
-    → Answers F text result old new (close (block_behind (F encoding.id) (here (spot_at text encoding.end) (table F old))))
+    → Answers F text result old new
+    (close (block_behind (F encoding.id) (here (spot_at text encoding.end) (table F old))))

@@ -15,8 +15,8 @@ use demangle_cells::{Arena, Cell, Part, Tag as CellTag, Text};
 use demangle_read_rows::next_is;
 use demangle_text::Result;
 
-/// A prefix of one part, ABI section 5.1.2, <prefix>: the reference to it, and where the text goes on. Where `E` is next
-/// the whole name ends with it, and it goes to the second list. `OutOfMemory` is the one refusal.
+/// A prefix of one part, ABI section 5.1.2, <prefix>: the reference to it, and where the text goes on. Where `E` is
+/// next the whole name ends with it, and it goes to the second list. `OutOfMemory` is the one refusal.
 #[tactic(auto, using(demangle_cells::proofs::Grows::grows))]
 pub fn add_prefix_of_one(
     arena: &mut Arena,

@@ -9,8 +9,8 @@ use crate::shapes::is_node;
 use demangle_cells::{Arena, Cell, Tag};
 use demangle_text::{Error, Result};
 
-/// The name of a data member of this name behind the prefix, without the name's tags. `UnexpectedText` where the name is no
-/// source name.
+/// The name of a data member of this name behind the prefix, without the name's tags. `UnexpectedText` where the
+/// name is no source name.
 #[tactic(auto, using(demangle_cells::proofs::Grows::grows, crate::proofs::MemberNames::members))]
 pub fn member_prefix(arena: &mut Arena, prefix: u32, name: u32) -> Result<u32>
     ensures grown { Grown (view arena.old) (view arena.new) }
