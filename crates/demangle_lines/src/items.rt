@@ -23,7 +23,7 @@ pub fn hold<'s, T: Tree<S>, S: 's, W: DemangleWrite, B: Below<'s, T, S, W>>(
     item: T,
     ctx: &mut Context<'s, '_, T, S, W>,
 )
-ensures { Pushes (B.at below).level (page T.tree T.table W.seen ctx.old) (page T.tree T.table W.seen ctx.new) (T.tree
+    ensures { Pushes (B.at below).level (page T.tree T.table W.seen ctx.old) (page T.tree T.table W.seen ctx.new) (T.tree
         item) }
 {
     ctx.hold(item, below.level());
@@ -37,7 +37,7 @@ pub fn close<'s, T: Tree<S>, S: 's, W: DemangleWrite, B: Below<'s, T, S, W>>(
     ctx: &mut Context<'s, '_, T, S, W>,
 )
     requires { B.can below }
-ensures { Closes (B.at below) (page T.tree T.table W.seen ctx.old) (page T.tree T.table W.seen ctx.new) (inner_of
+    ensures { Closes (B.at below) (page T.tree T.table W.seen ctx.old) (page T.tree T.table W.seen ctx.new) (inner_of
         (world_of (B.at below).refers) (T.tree item) (lent_scope T.tree scope.entry) done) }
 {
     if ctx.take_own(below.level()) {
@@ -53,7 +53,7 @@ pub fn close_spaced<'s, T: Tree<S>, S: 's, W: DemangleWrite, B: Below<'s, T, S, 
     ctx: &mut Context<'s, '_, T, S, W>,
 )
     requires { B.can below }
-ensures { Closes (B.at below) (page T.tree T.table W.seen ctx.old) (page T.tree T.table W.seen ctx.new) (space
+    ensures { Closes (B.at below) (page T.tree T.table W.seen ctx.old) (page T.tree T.table W.seen ctx.new) (space
         (inner_of (world_of (B.at below).refers) (T.tree item) (lent_scope T.tree scope.entry) done)) }
 {
     if ctx.take_own(below.level()) {
@@ -69,7 +69,7 @@ pub fn taken<'s, T: Tree<S>, S: 's, W: DemangleWrite, B: Below<'s, T, S, W>>(
     ctx: &mut Context<'s, '_, T, S, W>,
 )
     requires { B.can below }
-ensures { Takes (B.at below) (page T.tree T.table W.seen ctx.old) (page T.tree T.table W.seen ctx.new) (lent_scope
+    ensures { Takes (B.at below) (page T.tree T.table W.seen ctx.old) (page T.tree T.table W.seen ctx.new) (lent_scope
         T.tree scope.entry) }
 {
     match ctx.take() {
@@ -86,7 +86,7 @@ pub fn take_top<'s, T: Tree<S>, S: 's, W: DemangleWrite, B: Below<'s, T, S, W>>(
     ctx: &mut Context<'s, '_, T, S, W>,
 )
     requires { B.can below }
-ensures { (k : Act Core) → Remains (B.at below) (page T.tree T.table W.seen ctx.old) (page T.tree T.table W.seen
+    ensures { (k : Act Core) → Remains (B.at below) (page T.tree T.table W.seen ctx.old) (page T.tree T.table W.seen
         ctx.new) (pop (inner_of (world_of (B.at below).refers) (T.tree item) (lent_scope T.tree scope.entry) k)) k }
 {
     ctx.pop();
@@ -100,7 +100,7 @@ pub fn all_waiting<'s, T: Tree<S>, S: 's, W: DemangleWrite, B: Below<'s, T, S, W
     ctx: &mut Context<'s, '_, T, S, W>,
 )
     requires { B.can below }
-ensures { Meets (B.at below) (page T.tree T.table W.seen ctx.old) (page T.tree T.table W.seen ctx.new) (turns
+    ensures { Meets (B.at below) (page T.tree T.table W.seen ctx.old) (page T.tree T.table W.seen ctx.new) (turns
         (world_of (B.at below).refers) (length (page T.tree T.table W.seen ctx.old).inner) (lent_scope T.tree
         scope.entry)) }
 {

@@ -30,7 +30,7 @@ fn alone<'s, T: Tree<S>, S: 's, W: DemangleWrite, B: Below<'s, T, S, W>>(
     ctx: &mut Context<'s, '_, T, S, W>,
 )
     requires { B.can below }
-ensures { Meets (B.at below) (page T.tree T.table W.seen ctx.old) (page T.tree T.table W.seen ctx.new) (call (line
+    ensures { Meets (B.at below) (page T.tree T.table W.seen ctx.old) (page T.tree T.table W.seen ctx.new) (call (line
         (T.tree tree)) [] done) }
 {
     let nothing = empty(scope, tree);
@@ -45,7 +45,7 @@ fn leaf_line<'s, T: Tree<S>, S: 's, W: DemangleWrite, B: Below<'s, T, S, W>>(
     ctx: &mut Context<'s, '_, T, S, W>,
 )
     requires { B.can below }
-ensures { Meets (B.at below) (page T.tree T.table W.seen ctx.old) (page T.tree T.table W.seen ctx.new) (leaf_act
+    ensures { Meets (B.at below) (page T.tree T.table W.seen ctx.old) (page T.tree T.table W.seen ctx.new) (leaf_act
         (world_of (B.at below).refers) (Ok (T.tree tree))) }
 {
     let shape = shape_at(below, tree);
@@ -73,7 +73,7 @@ pub fn need_leaf<'s, T: Tree<S>, S: 's, W: DemangleWrite, B: Below<'s, T, S, W>>
     scope: Option<&Scope<'_, T>>,
     ctx: &mut Context<'s, '_, T, S, W>,
 )
-ensures { Meets (B.at below) (page T.tree T.table W.seen ctx.old) (page T.tree T.table W.seen ctx.new) (need_leaf
+    ensures { Meets (B.at below) (page T.tree T.table W.seen ctx.old) (page T.tree T.table W.seen ctx.new) (need_leaf
         (world_of (B.at below).refers) (scope_leaf (lent_scope T.tree scope.entry))) }
 {
     match leaf_in(scope) {
@@ -90,7 +90,7 @@ fn leaf_found<'s, T: Tree<S>, S: 's, W: DemangleWrite, B: Below<'s, T, S, W>>(
     ctx: &mut Context<'s, '_, T, S, W>,
 )
     requires { B.can below }
-ensures { Meets (B.at below) (page T.tree T.table W.seen ctx.old) (page T.tree T.table W.seen ctx.new) (leaf_act
+    ensures { Meets (B.at below) (page T.tree T.table W.seen ctx.old) (page T.tree T.table W.seen ctx.new) (leaf_act
         (world_of (B.at below).refers) (found_leaf (world_of (B.at below).refers) (option_map T.tree found))) }
 {
     match found {
@@ -106,7 +106,7 @@ pub fn leaf<'s, T: Tree<S>, S: 's, W: DemangleWrite, B: Below<'s, T, S, W>>(
     ctx: &mut Context<'s, '_, T, S, W>,
 )
     requires { B.can below }
-ensures { Meets (B.at below) (page T.tree T.table W.seen ctx.old) (page T.tree T.table W.seen ctx.new) (leaf_act
+    ensures { Meets (B.at below) (page T.tree T.table W.seen ctx.old) (page T.tree T.table W.seen ctx.new) (leaf_act
         (world_of (B.at below).refers) (scope_leaf (lent_scope T.tree scope.entry))) }
 {
     leaf_found(below, leaf_in(scope), scope, ctx);
@@ -122,7 +122,7 @@ pub fn inner_leaf<'s, T: Tree<S>, S: 's, W: DemangleWrite, B: Below<'s, T, S, W>
     ctx: &mut Context<'s, '_, T, S, W>,
 )
     requires { B.can below }
-ensures { Meets (B.at below) (page T.tree T.table W.seen ctx.old) (page T.tree T.table W.seen ctx.new) (leaf_act
+    ensures { Meets (B.at below) (page T.tree T.table W.seen ctx.old) (page T.tree T.table W.seen ctx.new) (leaf_act
         (world_of (B.at below).refers) (found_leaf (world_of (B.at below).refers) (leaf_name_of (world_of (B.at
         below).refers) (find (world_of (B.at below).refers) (Some (T.tree tree)) (first ∷ second ∷ []))))) }
 {
@@ -139,7 +139,7 @@ pub fn argument<'s, T: Tree<S>, S: 's, W: DemangleWrite, B: Below<'s, T, S, W>>(
     ctx: &mut Context<'s, '_, T, S, W>,
 )
     requires { B.can below }
-ensures { Meets (B.at below) (page T.tree T.table W.seen ctx.old) (page T.tree T.table W.seen ctx.new) (argument_act
+    ensures { Meets (B.at below) (page T.tree T.table W.seen ctx.old) (page T.tree T.table W.seen ctx.new) (argument_act
         (world_of (B.at below).refers) (scope_argument (world_of (B.at below).refers) (lent_scope T.tree scope.entry)
         (index_seen (see (world_of (B.at below).refers) (find (world_of (B.at below).refers) (Some (T.tree tree))
         (number ∷ []))))) (lent_scope T.tree scope.entry)) }

@@ -26,7 +26,7 @@ pub fn itself<'s, T: Tree<S>, S: 's, W: DemangleWrite, B: Below<'s, T, S, W>>(
     ctx: &mut Context<'s, '_, T, S, W>,
 )
     requires { B.can below }
-ensures { Meets (B.at below) (page T.tree T.table W.seen ctx.old) (page T.tree T.table W.seen ctx.new) (line_of
+    ensures { Meets (B.at below) (page T.tree T.table W.seen ctx.old) (page T.tree T.table W.seen ctx.new) (line_of
         (world_of (B.at below).refers) (Some (T.tree tree)) (lent_scope T.tree scope.entry)) }
 {
     match printed_at(below, tree) {
@@ -44,7 +44,7 @@ pub fn line_of<'s, T: Tree<S>, S: 's, W: DemangleWrite, B: Below<'s, T, S, W>>(
     ctx: &mut Context<'s, '_, T, S, W>,
 )
     requires { B.can below }
-ensures { Meets (B.at below) (page T.tree T.table W.seen ctx.old) (page T.tree T.table W.seen ctx.new) (line_of
+    ensures { Meets (B.at below) (page T.tree T.table W.seen ctx.old) (page T.tree T.table W.seen ctx.new) (line_of
         (world_of (B.at below).refers) (option_map T.tree found) (lent_scope T.tree scope.entry)) }
 {
     match found {
@@ -62,7 +62,7 @@ pub fn part<'s, T: Tree<S>, S: 's, W: DemangleWrite, B: Below<'s, T, S, W>>(
     ctx: &mut Context<'s, '_, T, S, W>,
 )
     requires { B.can below }
-ensures { Meets (B.at below) (page T.tree T.table W.seen ctx.old) (page T.tree T.table W.seen ctx.new) (line_of
+    ensures { Meets (B.at below) (page T.tree T.table W.seen ctx.old) (page T.tree T.table W.seen ctx.new) (line_of
         (world_of (B.at below).refers) (find (world_of (B.at below).refers) (Some (T.tree tree)) (number ∷ []))
         (lent_scope T.tree scope.entry)) }
 {
@@ -79,7 +79,7 @@ pub fn inner_part<'s, T: Tree<S>, S: 's, W: DemangleWrite, B: Below<'s, T, S, W>
     ctx: &mut Context<'s, '_, T, S, W>,
 )
     requires { B.can below }
-ensures { Meets (B.at below) (page T.tree T.table W.seen ctx.old) (page T.tree T.table W.seen ctx.new) (line_of
+    ensures { Meets (B.at below) (page T.tree T.table W.seen ctx.old) (page T.tree T.table W.seen ctx.new) (line_of
         (world_of (B.at below).refers) (find (world_of (B.at below).refers) (Some (T.tree tree)) (first ∷ second ∷
         [])) (lent_scope T.tree scope.entry)) }
 {
@@ -97,11 +97,16 @@ pub fn innermost_part<'s, T: Tree<S>, S: 's, W: DemangleWrite, B: Below<'s, T, S
     ctx: &mut Context<'s, '_, T, S, W>,
 )
     requires { B.can below }
-ensures { Meets (B.at below) (page T.tree T.table W.seen ctx.old) (page T.tree T.table W.seen ctx.new) (line_of
+    ensures { Meets (B.at below) (page T.tree T.table W.seen ctx.old) (page T.tree T.table W.seen ctx.new) (line_of
         (world_of (B.at below).refers) (find (world_of (B.at below).refers) (Some (T.tree tree)) (first ∷ second ∷
         third ∷ [])) (lent_scope T.tree scope.entry)) }
 {
-    line_of(below, part_of_parts(below, tree, first, second, third), scope, ctx);
+    line_of(
+        below,
+        part_of_parts(below, tree, first, second, third),
+        scope,
+        ctx,
+    );
 }
 
 /// An operand, in parentheses where it is no parameter and no name.
@@ -113,7 +118,7 @@ pub fn operand<'s, T: Tree<S>, S: 's, W: DemangleWrite, B: Below<'s, T, S, W>>(
     ctx: &mut Context<'s, '_, T, S, W>,
 )
     requires { B.can below }
-ensures { Meets (B.at below) (page T.tree T.table W.seen ctx.old) (page T.tree T.table W.seen ctx.new) (operand_in
+    ensures { Meets (B.at below) (page T.tree T.table W.seen ctx.old) (page T.tree T.table W.seen ctx.new) (operand_in
         (is_bare (world_of (B.at below).refers) (find (world_of (B.at below).refers) (Some (T.tree tree)) (number ∷
         []))) (line_of (world_of (B.at below).refers) (find (world_of (B.at below).refers) (Some (T.tree tree))
         (number ∷ [])) (lent_scope T.tree scope.entry))) }
@@ -138,7 +143,7 @@ pub fn entry<'s, T: Tree<S>, S: 's, W: DemangleWrite, B: Below<'s, T, S, W>>(
     ctx: &mut Context<'s, '_, T, S, W>,
 )
     requires { B.can below }
-ensures { Meets (B.at below) (page T.tree T.table W.seen ctx.old) (page T.tree T.table W.seen ctx.new) (line_of
+    ensures { Meets (B.at below) (page T.tree T.table W.seen ctx.old) (page T.tree T.table W.seen ctx.new) (line_of
         (world_of (B.at below).refers) (nth number (listed (world_of (B.at below).refers) (option_map T.tree list)))
         (lent_scope T.tree scope.entry)) }
 {
@@ -153,7 +158,7 @@ pub fn lines<'s, T: Tree<S>, S: 's, W: DemangleWrite, B: Below<'s, T, S, W>>(
     ctx: &mut Context<'s, '_, T, S, W>,
 )
     requires { B.can below }
-ensures { Meets (B.at below) (page T.tree T.table W.seen ctx.old) (page T.tree T.table W.seen ctx.new) (lines_of
+    ensures { Meets (B.at below) (page T.tree T.table W.seen ctx.old) (page T.tree T.table W.seen ctx.new) (lines_of
         (world_of (B.at below).refers) (listed (world_of (B.at below).refers) (option_map T.tree list)) (lent_scope
         T.tree scope.entry)) }
 {
@@ -178,7 +183,7 @@ pub fn list<'s, T: Tree<S>, S: 's, W: DemangleWrite, B: Below<'s, T, S, W>>(
     ctx: &mut Context<'s, '_, T, S, W>,
 )
     requires { B.can below }
-ensures { Meets (B.at below) (page T.tree T.table W.seen ctx.old) (page T.tree T.table W.seen ctx.new) (lines_of
+    ensures { Meets (B.at below) (page T.tree T.table W.seen ctx.old) (page T.tree T.table W.seen ctx.new) (lines_of
         (world_of (B.at below).refers) (listed (world_of (B.at below).refers) (find (world_of (B.at below).refers)
         (Some (T.tree tree)) (number ∷ []))) (lent_scope T.tree scope.entry)) }
 {
@@ -196,7 +201,7 @@ fn argument_line<'s, T: Tree<S>, S: 's, W: DemangleWrite, B: Below<'s, T, S, W>>
     ctx: &mut Context<'s, '_, T, S, W>,
 )
     requires { B.can below }
-ensures { Meets (B.at below) (page T.tree T.table W.seen ctx.old) (page T.tree T.table W.seen ctx.new) (line_of
+    ensures { Meets (B.at below) (page T.tree T.table W.seen ctx.old) (page T.tree T.table W.seen ctx.new) (line_of
         (world_of (B.at below).refers) (nth number (listed (world_of (B.at below).refers) (option_map T.tree list)))
         (in_member number (began_at (T.tree tree)) (lent_scope T.tree scope.entry))) }
 {
@@ -213,7 +218,7 @@ pub fn members<'s, T: Tree<S>, S: 's, W: DemangleWrite, B: Below<'s, T, S, W>>(
     ctx: &mut Context<'s, '_, T, S, W>,
 )
     requires { B.can below }
-ensures { Meets (B.at below) (page T.tree T.table W.seen ctx.old) (page T.tree T.table W.seen ctx.new) (members_of
+    ensures { Meets (B.at below) (page T.tree T.table W.seen ctx.old) (page T.tree T.table W.seen ctx.new) (members_of
         (world_of (B.at below).refers) (place_of (world_of (B.at below).refers) (Some (T.tree tree))) (listed
         (world_of (B.at below).refers) (find (world_of (B.at below).refers) (Some (T.tree tree)) (number ∷ [])))
         (lent_scope T.tree scope.entry)) }

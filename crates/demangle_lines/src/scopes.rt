@@ -8,9 +8,7 @@ ghost use Rattle.demangle_printing.specs.World.{find};
 ghost use Rattle.demangle_meets.specs.Place.{world_of};
 ghost use Rattle.demangle_lines.specs.ScopeOf.{lent_scope, stack_scope};
 
-use crate::at::{
-    leaf_name_at, part_at, part_of_part, prefix_arguments_at, type_arguments_at,
-};
+use crate::at::{leaf_name_at, part_at, part_of_part, prefix_arguments_at, type_arguments_at};
 use crate::below::Below;
 use crate::scope::{Scope, found_arguments, found_leaf};
 use crate::tree::Tree;
@@ -21,7 +19,7 @@ pub(crate) fn leaf_name_of<'s, T: Tree<S>, S: 's, W: DemangleWrite, B: Below<'s,
     below: B,
     found: Option<T>,
 ) -> Option<T>
-ensures { option_map T.tree result ≡ leaf_name_of (world_of (B.at below).refers) (option_map T.tree found) }
+    ensures { option_map T.tree result ≡ leaf_name_of (world_of (B.at below).refers) (option_map T.tree found) }
 {
     match found {
         None => None,
@@ -36,7 +34,7 @@ pub fn with_leaf_name<'prev, 's, T: Tree<S>, S: 's, W: DemangleWrite, B: Below<'
     number: usize,
     scope: Option<&'prev Scope<'prev, T>>,
 ) -> Scope<'prev, T>
-ensures { stack_scope T.tree result ≡ with_leaf (leaf_name_of (world_of (B.at below).refers) (find (world_of (B.at
+    ensures { stack_scope T.tree result ≡ with_leaf (leaf_name_of (world_of (B.at below).refers) (find (world_of (B.at
         below).refers) (Some (T.tree tree)) (number ∷ []))) (lent_scope T.tree scope.entry) }
 {
     let found = leaf_name_of(below, part_at(below, tree, number));
@@ -48,7 +46,7 @@ pub(crate) fn prefix_arguments_of<'s, T: Tree<S>, S: 's, W: DemangleWrite, B: Be
     below: B,
     found: Option<T>,
 ) -> Option<T>
-ensures { option_map T.tree result ≡ args_of (world_of (B.at below).refers) as_prefix (option_map T.tree found) }
+    ensures { option_map T.tree result ≡ args_of (world_of (B.at below).refers) as_prefix (option_map T.tree found) }
 {
     match found {
         None => None,
@@ -63,7 +61,7 @@ pub fn with_prefix_arguments<'prev, 's, T: Tree<S>, S: 's, W: DemangleWrite, B: 
     number: usize,
     scope: Option<&'prev Scope<'prev, T>>,
 ) -> Scope<'prev, T>
-ensures { stack_scope T.tree result ≡ with_args (args_of (world_of (B.at below).refers) as_prefix (find (world_of
+    ensures { stack_scope T.tree result ≡ with_args (args_of (world_of (B.at below).refers) as_prefix (find (world_of
         (B.at below).refers) (Some (T.tree tree)) (number ∷ []))) (lent_scope T.tree scope.entry) }
 {
     let found = prefix_arguments_of(below, part_at(below, tree, number));
@@ -75,7 +73,7 @@ pub(crate) fn type_arguments_of<'s, T: Tree<S>, S: 's, W: DemangleWrite, B: Belo
     below: B,
     found: Option<T>,
 ) -> Option<T>
-ensures { option_map T.tree result ≡ args_of (world_of (B.at below).refers) as_type (option_map T.tree found) }
+    ensures { option_map T.tree result ≡ args_of (world_of (B.at below).refers) as_type (option_map T.tree found) }
 {
     match found {
         None => None,
@@ -90,7 +88,7 @@ pub fn with_type_arguments<'prev, 's, T: Tree<S>, S: 's, W: DemangleWrite, B: Be
     number: usize,
     scope: Option<&'prev Scope<'prev, T>>,
 ) -> Scope<'prev, T>
-ensures { stack_scope T.tree result ≡ with_args (args_of (world_of (B.at below).refers) as_type (find (world_of (B.at
+    ensures { stack_scope T.tree result ≡ with_args (args_of (world_of (B.at below).refers) as_type (find (world_of (B.at
         below).refers) (Some (T.tree tree)) (number ∷ []))) (lent_scope T.tree scope.entry) }
 {
     let found = type_arguments_of(below, part_at(below, tree, number));
@@ -104,7 +102,7 @@ pub fn with_these<'prev, 's, T: Tree<S>, S: 's, W: DemangleWrite, B: Below<'s, T
     number: usize,
     scope: Option<&'prev Scope<'prev, T>>,
 ) -> Scope<'prev, T>
-ensures { stack_scope T.tree result ≡ with_args (find (world_of (B.at below).refers) (Some (T.tree tree)) (number ∷
+    ensures { stack_scope T.tree result ≡ with_args (find (world_of (B.at below).refers) (Some (T.tree tree)) (number ∷
         [])) (lent_scope T.tree scope.entry) }
 {
     found_arguments(scope, part_at(below, tree, number), tree)
@@ -118,7 +116,7 @@ pub fn with_inner_these<'prev, 's, T: Tree<S>, S: 's, W: DemangleWrite, B: Below
     second: usize,
     scope: Option<&'prev Scope<'prev, T>>,
 ) -> Scope<'prev, T>
-ensures { stack_scope T.tree result ≡ with_args (find (world_of (B.at below).refers) (Some (T.tree tree)) (first ∷
+    ensures { stack_scope T.tree result ≡ with_args (find (world_of (B.at below).refers) (Some (T.tree tree)) (first ∷
         second ∷ [])) (lent_scope T.tree scope.entry) }
 {
     found_arguments(scope, part_of_part(below, tree, first, second), tree)

@@ -16,18 +16,14 @@ use crate::at::{
     prefix_arguments_at, shape_at, shape_of, type_arguments_at,
 };
 use crate::below::Below;
-use crate::bytes;
-use crate::tags;
 use crate::tree::{Shape, Tree};
+use crate::{bytes, tags};
 use demangle_context::DemangleWrite;
 
 /// Whether a tree is a node of this tag.
 #[inline(always)]
-pub fn is_tag(
-    shape: Shape,
-    number: u8,
-) -> bool
-ensures { result ≡ is_tag number shape }
+pub fn is_tag(shape: Shape, number: u8) -> bool
+    ensures { result ≡ is_tag number shape }
 {
     match shape {
         Shape::Node(tag) => tag == number,
@@ -37,10 +33,8 @@ ensures { result ≡ is_tag number shape }
 
 /// Whether a tree is a number.
 #[inline(always)]
-pub(crate) fn is_number(
-    shape: Shape,
-) -> bool
-ensures { result ≡ is_number shape }
+pub(crate) fn is_number(shape: Shape) -> bool
+    ensures { result ≡ is_number shape }
 {
     match shape {
         Shape::Number => true,
@@ -50,10 +44,8 @@ ensures { result ≡ is_number shape }
 
 /// Whether it says that something is so.
 #[inline(always)]
-fn is_set(
-    shape: Shape,
-) -> bool
-ensures { result ≡ flag_shape shape }
+fn is_set(shape: Shape) -> bool
+    ensures { result ≡ flag_shape shape }
 {
     match shape {
         Shape::Flag(is_so) => is_so,
@@ -63,12 +55,8 @@ ensures { result ≡ flag_shape shape }
 
 /// Whether it is this word.
 #[inline(always)]
-fn is_shape_word(
-    shape: Shape,
-    table: u8,
-    word: u8,
-) -> bool
-ensures { result ≡ is_word_shape table word shape }
+fn is_shape_word(shape: Shape, table: u8, word: u8) -> bool
+    ensures { result ≡ is_word_shape table word shape }
 {
     match shape {
         Shape::Word(its_table, its_word) => table == its_table && word == its_word,
@@ -82,7 +70,7 @@ pub fn is_there<'s, T: Tree<S>, S: 's, W: DemangleWrite, B: Below<'s, T, S, W>>(
     tree: T,
     number: usize,
 ) -> bool
-ensures { Says (B.at below).refers (T.tree tree) (Test.there (number ∷ [])) result }
+    ensures { Says (B.at below).refers (T.tree tree) (Test.there (number ∷ [])) result }
 {
     is_tag(shape_of(below, part_at(below, tree, number)), tags::PRESENT)
 }
@@ -93,7 +81,7 @@ pub fn is_true<'s, T: Tree<S>, S: 's, W: DemangleWrite, B: Below<'s, T, S, W>>(
     tree: T,
     number: usize,
 ) -> bool
-ensures { Says (B.at below).refers (T.tree tree) (Test.is_true (number ∷ [])) result }
+    ensures { Says (B.at below).refers (T.tree tree) (Test.is_true (number ∷ [])) result }
 {
     is_set(shape_of(below, part_at(below, tree, number)))
 }
@@ -106,13 +94,9 @@ pub fn is_word<'s, T: Tree<S>, S: 's, W: DemangleWrite, B: Below<'s, T, S, W>>(
     word: u8,
     number: usize,
 ) -> bool
-ensures { Says (B.at below).refers (T.tree tree) (Test.is_word table word (number ∷ [])) result }
+    ensures { Says (B.at below).refers (T.tree tree) (Test.is_word table word (number ∷ [])) result }
 {
-    is_shape_word(
-        shape_of(below, part_at(below, tree, number)),
-        table,
-        word,
-    )
+    is_shape_word(shape_of(below, part_at(below, tree, number)), table, word)
 }
 
 /// Whether a part of a part is this word.
@@ -124,7 +108,7 @@ pub fn is_inner_word<'s, T: Tree<S>, S: 's, W: DemangleWrite, B: Below<'s, T, S,
     first: usize,
     second: usize,
 ) -> bool
-ensures { Says (B.at below).refers (T.tree tree) (Test.is_word table word (first ∷ second ∷ [])) result }
+    ensures { Says (B.at below).refers (T.tree tree) (Test.is_word table word (first ∷ second ∷ [])) result }
 {
     is_shape_word(
         shape_of(below, part_of_part(below, tree, first, second)),
@@ -143,7 +127,7 @@ pub fn is_innermost_word<'s, T: Tree<S>, S: 's, W: DemangleWrite, B: Below<'s, T
     second: usize,
     third: usize,
 ) -> bool
-ensures { Says (B.at below).refers (T.tree tree) (Test.is_word table word (first ∷ second ∷ third ∷ [])) result }
+    ensures { Says (B.at below).refers (T.tree tree) (Test.is_word table word (first ∷ second ∷ third ∷ [])) result }
 {
     is_shape_word(
         shape_of(below, part_of_parts(below, tree, first, second, third)),
@@ -159,7 +143,7 @@ pub fn spells<'s, T: Tree<S>, S: 's, W: DemangleWrite, B: Below<'s, T, S, W>>(
     word: &[u8],
     number: usize,
 ) -> bool
-ensures { Says (B.at below).refers (T.tree tree) (Test.spells word.now (number ∷ [])) result }
+    ensures { Says (B.at below).refers (T.tree tree) (Test.spells word.now (number ∷ [])) result }
 {
     bytes::spells(word, bytes_of(below, part_at(below, tree, number)))
 }
@@ -170,7 +154,7 @@ pub fn is_negative<'s, T: Tree<S>, S: 's, W: DemangleWrite, B: Below<'s, T, S, W
     tree: T,
     number: usize,
 ) -> bool
-ensures { Says (B.at below).refers (T.tree tree) (Test.negative (number ∷ [])) result }
+    ensures { Says (B.at below).refers (T.tree tree) (Test.negative (number ∷ [])) result }
 {
     bytes::is_negative(bytes_of(below, part_at(below, tree, number)))
 }
@@ -181,7 +165,7 @@ pub fn is_anonymous<'s, T: Tree<S>, S: 's, W: DemangleWrite, B: Below<'s, T, S, 
     tree: T,
     number: usize,
 ) -> bool
-ensures { Says (B.at below).refers (T.tree tree) (Test.anonymous (number ∷ [])) result }
+    ensures { Says (B.at below).refers (T.tree tree) (Test.anonymous (number ∷ [])) result }
 {
     bytes::is_anonymous(bytes_of(below, part_at(below, tree, number)))
 }
@@ -191,7 +175,7 @@ pub fn any_set<'s, T: Tree<S>, S: 's, W: DemangleWrite, B: Below<'s, T, S, W>>(
     below: B,
     list: Option<T>,
 ) -> bool
-ensures { result ≡ any_set (world_of (B.at below).refers) (listed (world_of (B.at below).refers) (option_map T.tree
+    ensures { result ≡ any_set (world_of (B.at below).refers) (listed (world_of (B.at below).refers) (option_map T.tree
         list)) }
 {
     let count = count_of(below, list);
@@ -209,7 +193,7 @@ pub fn is_qualified<'s, T: Tree<S>, S: 's, W: DemangleWrite, B: Below<'s, T, S, 
     tree: T,
     number: usize,
 ) -> bool
-ensures { Says (B.at below).refers (T.tree tree) (Test.qualified (number ∷ [])) result }
+    ensures { Says (B.at below).refers (T.tree tree) (Test.qualified (number ∷ [])) result }
 {
     any_set(below, part_at(below, tree, number))
 }
@@ -219,7 +203,7 @@ fn prefix_has_arguments<'s, T: Tree<S>, S: 's, W: DemangleWrite, B: Below<'s, T,
     below: B,
     found: Option<T>,
 ) -> bool
-ensures { result ≡ is_some (args_of (world_of (B.at below).refers) as_prefix (option_map T.tree found)) }
+    ensures { result ≡ is_some (args_of (world_of (B.at below).refers) as_prefix (option_map T.tree found)) }
 {
     match found {
         None => false,
@@ -233,7 +217,7 @@ pub fn has_prefix_arguments<'s, T: Tree<S>, S: 's, W: DemangleWrite, B: Below<'s
     tree: T,
     number: usize,
 ) -> bool
-ensures { Says (B.at below).refers (T.tree tree) (Test.has_args as_prefix (number ∷ [])) result }
+    ensures { Says (B.at below).refers (T.tree tree) (Test.has_args as_prefix (number ∷ [])) result }
 {
     prefix_has_arguments(below, part_at(below, tree, number))
 }
@@ -243,7 +227,7 @@ fn type_has_arguments<'s, T: Tree<S>, S: 's, W: DemangleWrite, B: Below<'s, T, S
     below: B,
     found: Option<T>,
 ) -> bool
-ensures { result ≡ is_some (args_of (world_of (B.at below).refers) as_type (option_map T.tree found)) }
+    ensures { result ≡ is_some (args_of (world_of (B.at below).refers) as_type (option_map T.tree found)) }
 {
     match found {
         None => false,
@@ -257,7 +241,7 @@ pub fn has_type_arguments<'s, T: Tree<S>, S: 's, W: DemangleWrite, B: Below<'s, 
     tree: T,
     number: usize,
 ) -> bool
-ensures { Says (B.at below).refers (T.tree tree) (Test.has_args as_type (number ∷ [])) result }
+    ensures { Says (B.at below).refers (T.tree tree) (Test.has_args as_type (number ∷ [])) result }
 {
     type_has_arguments(below, part_at(below, tree, number))
 }
@@ -267,7 +251,7 @@ fn special<'s, T: Tree<S>, S: 's, W: DemangleWrite, B: Below<'s, T, S, W>>(
     below: B,
     found: Option<T>,
 ) -> bool
-ensures { result ≡ is_special_tree (world_of (B.at below).refers) (option_map T.tree found) }
+    ensures { result ≡ is_special_tree (world_of (B.at below).refers) (option_map T.tree found) }
 {
     match found {
         None => false,
@@ -281,7 +265,7 @@ pub fn is_special<'s, T: Tree<S>, S: 's, W: DemangleWrite, B: Below<'s, T, S, W>
     tree: T,
     number: usize,
 ) -> bool
-ensures { Says (B.at below).refers (T.tree tree) (Test.special (number ∷ [])) result }
+    ensures { Says (B.at below).refers (T.tree tree) (Test.special (number ∷ [])) result }
 {
     special(below, part_at(below, tree, number))
 }
@@ -291,7 +275,7 @@ fn is_bare_tree<'s, T: Tree<S>, S: 's, W: DemangleWrite, B: Below<'s, T, S, W>>(
     below: B,
     tree: T,
 ) -> bool
-ensures { result ≡ is_bare (world_of (B.at below).refers) (Some (T.tree tree)) }
+    ensures { result ≡ is_bare (world_of (B.at below).refers) (Some (T.tree tree)) }
 {
     let shape = shape_at(below, tree);
     if is_tag(shape, tags::EXPRESSION_FUNCTION_PARAM) {
@@ -311,7 +295,7 @@ pub(crate) fn is_bare<'s, T: Tree<S>, S: 's, W: DemangleWrite, B: Below<'s, T, S
     below: B,
     found: Option<T>,
 ) -> bool
-ensures { result ≡ is_bare (world_of (B.at below).refers) (option_map T.tree found) }
+    ensures { result ≡ is_bare (world_of (B.at below).refers) (option_map T.tree found) }
 {
     match found {
         None => true,

@@ -28,7 +28,7 @@ fn write_signed_sum<'s, T: RefersTo<S>, S: 's, W: DemangleWrite>(
     plus: u8,
     ctx: &mut Context<'s, '_, T, S, W>,
 )
-ensures { Steps (page T.tree T.table W.seen ctx.old) (page T.tree T.table W.seen ctx.new) (written (signed_decimal
+    ensures { Steps (page T.tree T.table W.seen ctx.old) (page T.tree T.table W.seen ctx.new) (written (signed_decimal
         (value +ℤ pos plus))) }
 {
     let mut room = Decimal::new();
@@ -48,7 +48,7 @@ fn write_sum<'s, T: RefersTo<S>, S: 's, W: DemangleWrite>(
     plus: u8,
     ctx: &mut Context<'s, '_, T, S, W>,
 )
-ensures { Steps (page T.tree T.table W.seen ctx.old) (page T.tree T.table W.seen ctx.new) (written (signed_decimal
+    ensures { Steps (page T.tree T.table W.seen ctx.old) (page T.tree T.table W.seen ctx.new) (written (signed_decimal
         (number_of number +ℤ pos plus))) }
 {
     let mut room = Decimal::new();
@@ -63,7 +63,7 @@ fn write_number<'s, T: RefersTo<S>, S: 's, W: DemangleWrite>(
     number: Number,
     ctx: &mut Context<'s, '_, T, S, W>,
 )
-ensures { Steps (page T.tree T.table W.seen ctx.old) (page T.tree T.table W.seen ctx.new) (written (signed_decimal
+    ensures { Steps (page T.tree T.table W.seen ctx.old) (page T.tree T.table W.seen ctx.new) (written (signed_decimal
         (number_of number))) }
 {
     let mut room = Decimal::new();
@@ -79,7 +79,7 @@ pub fn spelled_itself<'s, T: Tree<S>, S: 's, W: DemangleWrite, B: Below<'s, T, S
     tree: T,
     ctx: &mut Context<'s, '_, T, S, W>,
 )
-ensures { Meets (B.at below) (page T.tree T.table W.seen ctx.old) (page T.tree T.table W.seen ctx.new) (spelled_act
+    ensures { Meets (B.at below) (page T.tree T.table W.seen ctx.old) (page T.tree T.table W.seen ctx.new) (spelled_act
         ((world_of (B.at below).refers).look (T.tree tree))) }
 {
     match shape_at(below, tree) {
@@ -98,7 +98,7 @@ fn spelled_of<'s, T: Tree<S>, S: 's, W: DemangleWrite, B: Below<'s, T, S, W>>(
     found: Option<T>,
     ctx: &mut Context<'s, '_, T, S, W>,
 )
-ensures { Meets (B.at below) (page T.tree T.table W.seen ctx.old) (page T.tree T.table W.seen ctx.new) (spelled_act
+    ensures { Meets (B.at below) (page T.tree T.table W.seen ctx.old) (page T.tree T.table W.seen ctx.new) (spelled_act
         (see (world_of (B.at below).refers) (option_map T.tree found))) }
 {
     match found {
@@ -114,9 +114,8 @@ pub fn spelled<'s, T: Tree<S>, S: 's, W: DemangleWrite, B: Below<'s, T, S, W>>(
     number: usize,
     ctx: &mut Context<'s, '_, T, S, W>,
 )
-ensures { Meets (B.at below) (page T.tree T.table W.seen ctx.old) (page T.tree T.table W.seen ctx.new) (spelled_act
-        (see (world_of (B.at below).refers) (find (world_of (B.at below).refers) (Some (T.tree tree)) (number ∷ []))))
-        }
+    ensures { Meets (B.at below) (page T.tree T.table W.seen ctx.old) (page T.tree T.table W.seen ctx.new) (spelled_act
+        (see (world_of (B.at below).refers) (find (world_of (B.at below).refers) (Some (T.tree tree)) (number ∷ [])))) }
 {
     spelled_of(below, part_at(below, tree, number), ctx);
 }
@@ -129,7 +128,7 @@ pub fn inner_spelled<'s, T: Tree<S>, S: 's, W: DemangleWrite, B: Below<'s, T, S,
     second: usize,
     ctx: &mut Context<'s, '_, T, S, W>,
 )
-ensures { Meets (B.at below) (page T.tree T.table W.seen ctx.old) (page T.tree T.table W.seen ctx.new) (spelled_act
+    ensures { Meets (B.at below) (page T.tree T.table W.seen ctx.old) (page T.tree T.table W.seen ctx.new) (spelled_act
         (see (world_of (B.at below).refers) (find (world_of (B.at below).refers) (Some (T.tree tree)) (first ∷ second
         ∷ [])))) }
 {
@@ -143,7 +142,7 @@ pub fn magnitude<'s, T: Tree<S>, S: 's, W: DemangleWrite, B: Below<'s, T, S, W>>
     number: usize,
     ctx: &mut Context<'s, '_, T, S, W>,
 )
-ensures { Meets (B.at below) (page T.tree T.table W.seen ctx.old) (page T.tree T.table W.seen ctx.new) (input_text
+    ensures { Meets (B.at below) (page T.tree T.table W.seen ctx.old) (page T.tree T.table W.seen ctx.new) (input_text
         (without_sign (bytes_seen (see (world_of (B.at below).refers) (find (world_of (B.at below).refers) (Some
         (T.tree tree)) (number ∷ [])))))) }
 {
@@ -159,7 +158,7 @@ fn ordinal_of<'s, T: Tree<S>, S: 's, W: DemangleWrite, B: Below<'s, T, S, W>>(
     plus: u8,
     ctx: &mut Context<'s, '_, T, S, W>,
 )
-ensures { Steps (page T.tree T.table W.seen ctx.old) (page T.tree T.table W.seen ctx.new) (written (ordinal_of none
+    ensures { Steps (page T.tree T.table W.seen ctx.old) (page T.tree T.table W.seen ctx.new) (written (ordinal_of none
         plus (see (world_of (B.at below).refers) (option_map T.tree found)))) }
 {
     if is_number(shape_of(below, found)) {
@@ -179,7 +178,7 @@ pub fn ordinal<'s, T: Tree<S>, S: 's, W: DemangleWrite, B: Below<'s, T, S, W>>(
     plus: u8,
     ctx: &mut Context<'s, '_, T, S, W>,
 )
-ensures { Steps (page T.tree T.table W.seen ctx.old) (page T.tree T.table W.seen ctx.new) (written (ordinal_of none
+    ensures { Steps (page T.tree T.table W.seen ctx.old) (page T.tree T.table W.seen ctx.new) (written (ordinal_of none
         plus (see (world_of (B.at below).refers) (find (world_of (B.at below).refers) (Some (T.tree tree)) (number ∷
         []))))) }
 {
@@ -196,7 +195,7 @@ pub fn inner_ordinal<'s, T: Tree<S>, S: 's, W: DemangleWrite, B: Below<'s, T, S,
     plus: u8,
     ctx: &mut Context<'s, '_, T, S, W>,
 )
-ensures { Steps (page T.tree T.table W.seen ctx.old) (page T.tree T.table W.seen ctx.new) (written (ordinal_of none
+    ensures { Steps (page T.tree T.table W.seen ctx.old) (page T.tree T.table W.seen ctx.new) (written (ordinal_of none
         plus (see (world_of (B.at below).refers) (find (world_of (B.at below).refers) (Some (T.tree tree)) (first ∷
         second ∷ []))))) }
 {
@@ -210,7 +209,7 @@ fn name_of<'s, T: Tree<S>, S: 's, W: DemangleWrite, B: Below<'s, T, S, W>>(
     found: Option<T>,
     ctx: &mut Context<'s, '_, T, S, W>,
 )
-ensures { Meets (B.at below) (page T.tree T.table W.seen ctx.old) (page T.tree T.table W.seen ctx.new) (named
+    ensures { Meets (B.at below) (page T.tree T.table W.seen ctx.old) (page T.tree T.table W.seen ctx.new) (named
         (bytes_seen (see (world_of (B.at below).refers) (option_map T.tree found))) (block (spelled_act (see (world_of
         (B.at below).refers) (option_map T.tree found))) done)) }
 {
@@ -230,7 +229,7 @@ pub fn name<'s, T: Tree<S>, S: 's, W: DemangleWrite, B: Below<'s, T, S, W>>(
     number: usize,
     ctx: &mut Context<'s, '_, T, S, W>,
 )
-ensures { Meets (B.at below) (page T.tree T.table W.seen ctx.old) (page T.tree T.table W.seen ctx.new) (named
+    ensures { Meets (B.at below) (page T.tree T.table W.seen ctx.old) (page T.tree T.table W.seen ctx.new) (named
         (bytes_seen (see (world_of (B.at below).refers) (find (world_of (B.at below).refers) (Some (T.tree tree))
         (number ∷ [])))) (block (spelled_act (see (world_of (B.at below).refers) (find (world_of (B.at below).refers)
         (Some (T.tree tree)) (number ∷ [])))) done)) }
@@ -244,7 +243,7 @@ fn suffix_of<'s, T: Tree<S>, S: 's, W: DemangleWrite, B: Below<'s, T, S, W>>(
     found: Option<T>,
     ctx: &mut Context<'s, '_, T, S, W>,
 )
-ensures { Meets (B.at below) (page T.tree T.table W.seen ctx.old) (page T.tree T.table W.seen ctx.new) (named
+    ensures { Meets (B.at below) (page T.tree T.table W.seen ctx.old) (page T.tree T.table W.seen ctx.new) (named
         (bytes_seen (see (world_of (B.at below).refers) (option_map T.tree found))) (text (codes " .") (block
         (spelled_act (see (world_of (B.at below).refers) (option_map T.tree found))) done))) }
 {
@@ -265,7 +264,7 @@ pub fn suffix<'s, T: Tree<S>, S: 's, W: DemangleWrite, B: Below<'s, T, S, W>>(
     number: usize,
     ctx: &mut Context<'s, '_, T, S, W>,
 )
-ensures { Meets (B.at below) (page T.tree T.table W.seen ctx.old) (page T.tree T.table W.seen ctx.new) (named
+    ensures { Meets (B.at below) (page T.tree T.table W.seen ctx.old) (page T.tree T.table W.seen ctx.new) (named
         (bytes_seen (see (world_of (B.at below).refers) (find (world_of (B.at below).refers) (Some (T.tree tree))
         (number ∷ [])))) (text (codes " .") (block (spelled_act (see (world_of (B.at below).refers) (find (world_of
         (B.at below).refers) (Some (T.tree tree)) (number ∷ [])))) done))) }
@@ -280,7 +279,7 @@ pub fn resource<'s, T: Tree<S>, S: 's, W: DemangleWrite, B: Below<'s, T, S, W>>(
     number: usize,
     ctx: &mut Context<'s, '_, T, S, W>,
 )
-ensures { Meets (B.at below) (page T.tree T.table W.seen ctx.old) (page T.tree T.table W.seen ctx.new) (texts
+    ensures { Meets (B.at below) (page T.tree T.table W.seen ctx.old) (page T.tree T.table W.seen ctx.new) (texts
         (characters (bytes_seen (see (world_of (B.at below).refers) (find (world_of (B.at below).refers) (Some (T.tree
         tree)) (number ∷ [])))))) }
 {

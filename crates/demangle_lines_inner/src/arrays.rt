@@ -18,7 +18,7 @@ fn space_before<'s, T: RefersTo<S>, S: 's, W: DemangleWrite>(
     is_spaced: bool,
     ctx: &mut Context<'s, '_, T, S, W>,
 )
-ensures { (p : Place) → Meets p (page T.tree T.table W.seen ctx.old) (page T.tree T.table W.seen ctx.new)
+    ensures { (p : Place) → Meets p (page T.tree T.table W.seen ctx.old) (page T.tree T.table W.seen ctx.new)
         (before_bounds (world_of p.refers) is_spaced) }
 {
     if is_spaced {
@@ -34,7 +34,7 @@ fn others_before_bounds<'s, T: Tree<S>, S: 's, W: DemangleWrite, B: Below<'s, T,
     ctx: &mut Context<'s, '_, T, S, W>,
 )
     requires { B.can below }
-ensures { Meets (B.at below) (page T.tree T.table W.seen ctx.old) (page T.tree T.table W.seen ctx.new)
+    ensures { Meets (B.at below) (page T.tree T.table W.seen ctx.old) (page T.tree T.table W.seen ctx.new)
         (others_before_bounds (world_of (B.at below).refers) (lent_scope T.tree scope.entry) is_spaced) }
 {
     all_waiting(below, scope, ctx);
@@ -51,9 +51,8 @@ fn others_in_parentheses<'s, T: Tree<S>, S: 's, W: DemangleWrite, B: Below<'s, T
     ctx: &mut Context<'s, '_, T, S, W>,
 )
     requires { B.can below }
-ensures { Meets (B.at below) (page T.tree T.table W.seen ctx.old) (page T.tree T.table W.seen ctx.new)
-        (others_in_parentheses (world_of (B.at below).refers) (T.tree item) (lent_scope T.tree scope.entry) is_spaced)
-        }
+    ensures { Meets (B.at below) (page T.tree T.table W.seen ctx.old) (page T.tree T.table W.seen ctx.new)
+        (others_in_parentheses (world_of (B.at below).refers) (T.tree item) (lent_scope T.tree scope.entry) is_spaced) }
 {
     ctx.space();
     take_top(below, item, scope, ctx);
@@ -71,7 +70,7 @@ fn all_in_parentheses<'s, T: Tree<S>, S: 's, W: DemangleWrite, B: Below<'s, T, S
     ctx: &mut Context<'s, '_, T, S, W>,
 )
     requires { B.can below }
-ensures { Meets (B.at below) (page T.tree T.table W.seen ctx.old) (page T.tree T.table W.seen ctx.new)
+    ensures { Meets (B.at below) (page T.tree T.table W.seen ctx.old) (page T.tree T.table W.seen ctx.new)
         (all_in_parentheses (world_of (B.at below).refers) (T.tree item) (lent_scope T.tree scope.entry) is_spaced) }
 {
     ctx.space();
@@ -87,7 +86,7 @@ pub(crate) fn before_bounds<'s, T: Tree<S>, S: 's, W: DemangleWrite, B: Below<'s
     ctx: &mut Context<'s, '_, T, S, W>,
 )
     requires { B.can below }
-ensures { Meets (B.at below) (page T.tree T.table W.seen ctx.old) (page T.tree T.table W.seen ctx.new) (array_turns
+    ensures { Meets (B.at below) (page T.tree T.table W.seen ctx.old) (page T.tree T.table W.seen ctx.new) (array_turns
         (world_of (B.at below).refers) (length (page T.tree T.table W.seen ctx.old).inner) (lent_scope T.tree
         scope.entry) true) }
 {

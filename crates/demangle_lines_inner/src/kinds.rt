@@ -27,11 +27,8 @@ pub(crate) enum ArrayTurn {
 
 /// Whether the number of a tag is this one.
 #[inline(always)]
-pub(crate) fn is(
-    number: u8,
-    tag: u8,
-) -> bool
-ensures { result ≡ (number == tag) }
+pub(crate) fn is(number: u8, tag: u8) -> bool
+    ensures { result ≡ (number == tag) }
 {
     number == tag
 }
@@ -42,7 +39,7 @@ pub fn tag_of<'s, T: Tree<S>, S: 's, W: DemangleWrite, B: Below<'s, T, S, W>>(
     below: B,
     tree: T,
 ) -> u8
-ensures { result ≡ code (tag (world_of (B.at below).refers) (T.tree tree)) }
+    ensures { result ≡ code (tag (world_of (B.at below).refers) (T.tree tree)) }
 {
     match shape_at(below, tree) {
         Shape::Node(tag) => tag,
@@ -55,7 +52,7 @@ pub(crate) fn is_kept<'s, T: Tree<S>, S: 's, W: DemangleWrite, B: Below<'s, T, S
     below: B,
     item: T,
 ) -> bool
-ensures { result ≡ is_kept (world_of (B.at below).refers) (T.tree item) }
+    ensures { result ≡ is_kept (world_of (B.at below).refers) (T.tree item) }
 {
     let number = tag_of(below, item);
     if is(number, tags::FUNCTION_TYPE) {
@@ -65,10 +62,8 @@ ensures { result ≡ is_kept (world_of (B.at below).refers) (T.tree item) }
 }
 
 /// Whether the number of a tag is that of a handle that holds its tree in place, or of a component.
-fn is_handle(
-    number: u8,
-) -> bool
-ensures { result ≡ number_holds number }
+fn is_handle(number: u8) -> bool
+    ensures { result ≡ number_holds number }
 {
     number == tags::WELL_KNOWN
         || number == tags::TYPE_HANDLE_BUILTIN
@@ -82,7 +77,7 @@ fn is_array_part<'s, T: Tree<S>, S: 's, W: DemangleWrite, B: Below<'s, T, S, W>>
     below: B,
     found: Option<T>,
 ) -> bool
-ensures { result ≡ is_array_tree (world_of (B.at below).refers) (option_map T.tree found) }
+    ensures { result ≡ is_array_tree (world_of (B.at below).refers) (option_map T.tree found) }
 {
     match found {
         None => false,
@@ -95,7 +90,7 @@ fn is_array<'s, T: Tree<S>, S: 's, W: DemangleWrite, B: Below<'s, T, S, W>>(
     below: B,
     found: Option<T>,
 ) -> bool
-ensures { result ≡ is_array_tree (world_of (B.at below).refers) (of_handle (world_of (B.at below).refers) (option_map
+    ensures { result ≡ is_array_tree (world_of (B.at below).refers) (of_handle (world_of (B.at below).refers) (option_map
         T.tree found)) }
 {
     let Some(tree) = found else {
@@ -109,10 +104,8 @@ ensures { result ≡ is_array_tree (world_of (B.at below).refers) (of_handle (wo
 }
 
 /// What a qualified type is, where it is known whether it is an array.
-fn array_turn(
-    is_array: bool,
-) -> ArrayTurn
-ensures { turn_of result ≡ qualified_turn is_array }
+fn array_turn(is_array: bool) -> ArrayTurn
+    ensures { turn_of result ≡ qualified_turn is_array }
 {
     if is_array {
         return ArrayTurn::Elements;
@@ -121,10 +114,8 @@ ensures { turn_of result ≡ qualified_turn is_array }
 }
 
 /// What another item is, by the number of its tag.
-fn tag_turn(
-    number: u8,
-) -> ArrayTurn
-ensures { turn_of result ≡ number_turn number }
+fn tag_turn(number: u8) -> ArrayTurn
+    ensures { turn_of result ≡ number_turn number }
 {
     if is(number, tags::ARRAY_TYPE_DIMENSION_NUMBER) {
         return ArrayTurn::Array;
@@ -143,7 +134,7 @@ pub(crate) fn item_turn<'s, T: Tree<S>, S: 's, W: DemangleWrite, B: Below<'s, T,
     below: B,
     item: T,
 ) -> ArrayTurn
-ensures { turn_of result ≡ turn_node (world_of (B.at below).refers) (T.tree item) (tag (world_of (B.at below).refers)
+    ensures { turn_of result ≡ turn_node (world_of (B.at below).refers) (T.tree item) (tag (world_of (B.at below).refers)
         (T.tree item)) }
 {
     let number = tag_of(below, item);

@@ -31,7 +31,7 @@ fn sift<'s, T: Tree<S>, S: 's, W: DemangleWrite, B: Below<'s, T, S, W>>(
     ctx: &mut Context<'s, '_, T, S, W>,
 )
     requires { B.can below }
-ensures { Sifts (B.at below) (page T.tree T.table W.seen ctx.old) (page T.tree T.table W.seen ctx.new) (is_kept
+    ensures { Sifts (B.at below) (page T.tree T.table W.seen ctx.old) (page T.tree T.table W.seen ctx.new) (is_kept
         (world_of (B.at below).refers)) (inside_of (world_of (B.at below).refers) (lent_scope T.tree scope.entry))
         (length (page T.tree T.table W.seen ctx.old).inner) }
 {
@@ -57,7 +57,7 @@ fn types_from<'s, T: Tree<S>, S: 's, W: DemangleWrite, B: Below<'s, T, S, W>>(
     ctx: &mut Context<'s, '_, T, S, W>,
 )
     requires { B.can below }
-ensures { Meets (B.at below) (page T.tree T.table W.seen ctx.old) (page T.tree T.table W.seen ctx.new) (lines_of
+    ensures { Meets (B.at below) (page T.tree T.table W.seen ctx.old) (page T.tree T.table W.seen ctx.new) (lines_of
         (world_of (B.at below).refers) (drop from (listed (world_of (B.at below).refers) (option_map T.tree list)))
         (lent_scope T.tree scope.entry)) }
 {
@@ -79,7 +79,7 @@ fn is_void<'s, T: Tree<S>, S: 's, W: DemangleWrite, B: Below<'s, T, S, W>>(
     list: Option<T>,
     from: u8,
 ) -> bool
-ensures { result ≡ is_void (world_of (B.at below).refers) (drop from (listed (world_of (B.at below).refers)
+    ensures { result ≡ is_void (world_of (B.at below).refers) (drop from (listed (world_of (B.at below).refers)
         (option_map T.tree list))) }
 {
     if count_of(below, list) != from as usize + 1 {
@@ -92,10 +92,8 @@ ensures { result ≡ is_void (world_of (B.at below).refers) (drop from (listed (
 }
 
 /// `this` before the first parameter, where it is an explicit object parameter.
-fn explicit_object<'s, T: RefersTo<S>, S: 's, W: DemangleWrite>(
-    ctx: &mut Context<'s, '_, T, S, W>,
-)
-ensures { (p : Place) → Meets p (page T.tree T.table W.seen ctx.old) (page T.tree T.table W.seen ctx.new)
+fn explicit_object<'s, T: RefersTo<S>, S: 's, W: DemangleWrite>(ctx: &mut Context<'s, '_, T, S, W>)
+    ensures { (p : Place) → Meets p (page T.tree T.table W.seen ctx.old) (page T.tree T.table W.seen ctx.new)
         (explicit_object (world_of p.refers) (page T.tree T.table W.seen ctx.old).flags.object) }
 {
     if ctx.is_on(PrintFlag::Object) {
@@ -113,7 +111,7 @@ fn list_of_parameters<'s, T: Tree<S>, S: 's, W: DemangleWrite, B: Below<'s, T, S
     ctx: &mut Context<'s, '_, T, S, W>,
 )
     requires { B.can below }
-ensures { Meets (B.at below) (page T.tree T.table W.seen ctx.old) (page T.tree T.table W.seen ctx.new) (parameters_end
+    ensures { Meets (B.at below) (page T.tree T.table W.seen ctx.old) (page T.tree T.table W.seen ctx.new) (parameters_end
         (world_of (B.at below).refers) (is_void (world_of (B.at below).refers) (drop from (listed (world_of (B.at
         below).refers) (option_map T.tree list)))) (drop from (listed (world_of (B.at below).refers) (option_map
         T.tree list))) (lent_scope T.tree scope.entry)) }
@@ -139,7 +137,7 @@ fn parameters_steps<'s, T: Tree<S>, S: 's, W: DemangleWrite, B: Below<'s, T, S, 
     ctx: &mut Context<'s, '_, T, S, W>,
 )
     requires { B.can below }
-ensures { Meets (B.at below) (page T.tree T.table W.seen ctx.old) (page T.tree T.table W.seen ctx.new) (parameters_act
+    ensures { Meets (B.at below) (page T.tree T.table W.seen ctx.old) (page T.tree T.table W.seen ctx.new) (parameters_act
         (world_of (B.at below).refers) (drop from (listed (world_of (B.at below).refers) (option_map T.tree list)))
         (lent_scope T.tree scope.entry)) }
 {
@@ -162,7 +160,7 @@ fn parameters<'s, T: Tree<S>, S: 's, W: DemangleWrite, B: Below<'s, T, S, W>>(
     ctx: &mut Context<'s, '_, T, S, W>,
 )
     requires { B.can below }
-ensures { Meets (B.at below) (page T.tree T.table W.seen ctx.old) (page T.tree T.table W.seen ctx.new) (call
+    ensures { Meets (B.at below) (page T.tree T.table W.seen ctx.old) (page T.tree T.table W.seen ctx.new) (call
         (job.parameters (drop from (listed (world_of (B.at below).refers) (option_map T.tree list)))) (lent_scope
         T.tree scope.entry) done) }
 {
@@ -182,7 +180,7 @@ pub(crate) fn parameters_behind<'s, T: Tree<S>, S: 's, W: DemangleWrite, B: Belo
     ctx: &mut Context<'s, '_, T, S, W>,
 )
     requires { B.can below }
-ensures { Meets (B.at below) (page T.tree T.table W.seen ctx.old) (page T.tree T.table W.seen ctx.new) (call
+    ensures { Meets (B.at below) (page T.tree T.table W.seen ctx.old) (page T.tree T.table W.seen ctx.new) (call
         (job.parameters (drop from (listed (world_of (B.at below).refers) (find (world_of (B.at below).refers) (Some
         (T.tree tree)) (number ∷ []))))) (lent_scope T.tree scope.entry) done) }
 {
@@ -194,7 +192,7 @@ fn name_arguments<'s, T: Tree<S>, S: 's, W: DemangleWrite, B: Below<'s, T, S, W>
     below: B,
     tree: T,
 ) -> Option<T>
-ensures { option_map T.tree result ≡ args_of (world_of (B.at below).refers) as_prefix (find (world_of (B.at
+    ensures { option_map T.tree result ≡ args_of (world_of (B.at below).refers) as_prefix (find (world_of (B.at
         below).refers) (Some (T.tree tree)) (0 ∷ [])) }
 {
     match part_at(below, tree, 0) {
@@ -212,7 +210,7 @@ pub fn function_inside<'s, T: Tree<S>, S: 's, W: DemangleWrite, B: Below<'s, T, 
     ctx: &mut Context<'s, '_, T, S, W>,
 )
     requires { B.can below }
-ensures { Meets (B.at below) (page T.tree T.table W.seen ctx.old) (page T.tree T.table W.seen ctx.new) (body (world_of
+    ensures { Meets (B.at below) (page T.tree T.table W.seen ctx.old) (page T.tree T.table W.seen ctx.new) (body (world_of
         (B.at below).refers) (inside_node (world_of (B.at below).refers) (T.tree tree) (lent_scope T.tree scope.entry)
         Tag.EncodingFunction).0 (inside_node (world_of (B.at below).refers) (T.tree tree) (lent_scope T.tree
         scope.entry) Tag.EncodingFunction).1) }

@@ -26,7 +26,6 @@ use Rattle.std.proofs.lemmas.Int.{ints, to_z-of_z}
 use Rattle.std.proofs.Common.{rules, ◌-◌}
 use mir.Syntax.{w64}
 use mir.Val.{SFits}
-
 use Rattle.demangle_meets.proofs.Acts.{meets_pop, meets_call}
 use Rattle.demangle_meets.specs.Meets.{Closes, TurnsRemain}
 use Rattle.std.proofs.Common.{◌-◌}

@@ -26,7 +26,6 @@ use Rattle.std.proofs.lemmas.Int.{ints, to_z-of_z}
 use Rattle.std.proofs.Common.{rules, ◌-◌}
 use mir.Syntax.{w64}
 use mir.Val.{SFits}
-
 use Rattle.demangle_meets.proofs.Acts.{meets_pop, meets_call}
 use Rattle.demangle_meets.specs.Meets.{Closes, TurnsRemain}
 use Rattle.std.proofs.Common.{◌-◌}
@@ -35,7 +34,7 @@ use Rattle.demangle_meets.proofs.Lines.{turns_taken}
 use Rattle.demangle_lines.proofs.items.all_waiting.Given as goal
 
 abbrev pub invariant-loop-turn : goal.invariant-loop-turn
-invariant-loop-turn g l = 
+invariant-loop-turn g l =
     TurnsRemain (g.B.Below.at l.below) (page g.T.InnerNode.tree g.T.RefersTo.table g.W.DemangleWrite.seen l.fn.ctx)
     (page g.T.InnerNode.tree g.T.RefersTo.table g.W.DemangleWrite.seen l.ctx)
     (turns (world_of (g.B.Below.at l.below).refers) (length (page g.T.InnerNode.tree g.T.RefersTo.table g.W.DemangleWrite.seen l.fn.ctx).inner) (lent_scope g.T.InnerNode.tree l.scope))

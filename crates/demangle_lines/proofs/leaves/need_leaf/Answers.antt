@@ -26,7 +26,6 @@ use Rattle.std.proofs.lemmas.Int.{ints, to_z-of_z}
 use Rattle.std.proofs.Common.{rules, ◌-◌}
 use mir.Syntax.{w64}
 use mir.Val.{SFits}
-
 use Rattle.std.specs.Prelude.{Ok, Err}
 use Rattle.demangle_printing.specs.Act as job
 use Rattle.demangle_printing.specs.Print.{body, source_or, steps_for}

@@ -19,7 +19,7 @@ use Rattle.demangle_lines.proofs.Shapes.{spelled_bytes, spelled_number, spelled_
 use Rattle.demangle_lines.proofs.parts.lines.Given as goal
 
 abbrev pub invariant-loop-number : goal.invariant-loop-number
-invariant-loop-number g l = 
+invariant-loop-number g l =
     ListRemains (g.B.Below.at l.below) (page g.T.InnerNode.tree g.T.RefersTo.table g.W.DemangleWrite.seen l.fn.ctx)
     (page g.T.InnerNode.tree g.T.RefersTo.table g.W.DemangleWrite.seen l.ctx)
     (lines_of (world_of (g.B.Below.at l.below).refers) (listed (world_of (g.B.Below.at l.below).refers) (option_map g.T.InnerNode.tree l.list)) (lent_scope g.T.InnerNode.tree l.scope))

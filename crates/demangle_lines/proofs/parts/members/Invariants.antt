@@ -20,7 +20,7 @@ use Rattle.demangle_printing.specs.Trees.{began_at}
 use Rattle.demangle_lines.proofs.parts.members.Given as goal
 
 abbrev pub invariant-loop-index : goal.invariant-loop-index
-invariant-loop-index g l = 
+invariant-loop-index g l =
     MembersRemain (g.B.Below.at l.below) (page g.T.InnerNode.tree g.T.RefersTo.table g.W.DemangleWrite.seen l.fn.ctx)
     (page g.T.InnerNode.tree g.T.RefersTo.table g.W.DemangleWrite.seen l.ctx)
     (members_of (world_of (g.B.Below.at l.below).refers) (began_at (g.T.InnerNode.tree l.tree)) (listed (world_of (g.B.Below.at l.below).refers) (option_map g.T.InnerNode.tree l.list)) (lent_scope g.T.InnerNode.tree l.scope))

@@ -26,7 +26,6 @@ use Rattle.std.proofs.lemmas.Int.{ints, to_z-of_z}
 use Rattle.std.proofs.Common.{rules, ◌-◌}
 use mir.Syntax.{w64}
 use mir.Val.{SFits}
-
 use Rattle.demangle_core.specs.Lookups.{as_prefix, as_type}
 use Rattle.demangle_lines.proofs.scopes.with_leaf_name.Goals as goal
 

@@ -13,6 +13,6 @@ use Rattle.demangle_lines.proofs.Lists.{any_first, any_here, any_next, any_over}
 use Rattle.demangle_lines.proofs.tests.any_set.Given as goal
 
 abbrev pub invariant-loop-number : goal.invariant-loop-number
-invariant-loop-number g l = 
+invariant-loop-number g l =
     any_set (world_of (g.B.Below.at l.below).refers) (listed (world_of (g.B.Below.at l.below).refers) (option_map g.T.InnerNode.tree l.list))
     ≡ any_set (world_of (g.B.Below.at l.below).refers) (drop l.number (listed (world_of (g.B.Below.at l.below).refers) (option_map g.T.InnerNode.tree l.list)))

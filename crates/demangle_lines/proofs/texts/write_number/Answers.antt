@@ -32,6 +32,6 @@ pub returns-in-Counted : goal.returns-in-Counted
 returns-in-Counted g c = rw c.in-Counted.is (rw c.unsigned.ensures at c.text.ensures)
 
 pub returns-in-Signed : goal.returns-in-Signed
-returns-in-Signed g c = 
+returns-in-Signed g c =
     let f : SFits w64 c.in-Signed.value = search rules in
     text_as (rw c.signed.ensures at c.text-in-Signed.ensures) (ap signed_decimal (to_z-of_z w64 c.in-Signed.value f) ∙ ap (λ n. signed_decimal (number_of n)) (sym c.in-Signed.is))

@@ -32,6 +32,6 @@ pub returns-in-Counted : goal.returns-in-Counted
 returns-in-Counted g c = text_as (rw c.unsigned.ensures at c.text.ensures) (ap (λ n. signed_decimal (number_of n +ℤ pos c.args.plus)) (sym c.in-Counted.is))
 
 pub returns-in-Signed : goal.returns-in-Signed
-returns-in-Signed g c = 
+returns-in-Signed g c =
     let f : SFits w64 c.in-Signed.value = search rules in
     text_as c.write_signed_sum.ensures (ap (λ z. signed_decimal (z +ℤ pos c.args.plus)) (to_z-of_z w64 c.in-Signed.value f) ∙ ap (λ n. signed_decimal (number_of n +ℤ pos c.args.plus)) (sym c.in-Signed.is))

@@ -26,7 +26,6 @@ use Rattle.demangle_lines_inner.proofs.Numbers.{array_code, handle_itself, handl
 use Rattle.demangle_lines_inner.proofs.Types.{none_from, first_from, void_never, void_one, void_other}
 use Rattle.demangle_printing.specs.Outcome.{first_state}
 use Rattle.demangle_context.specs.Options.{default_options}
-
 use Rattle.demangle_printing.specs.Arrays.{other, qualified}
 use Rattle.demangle_lines_inner.proofs.arrays.before_bounds.Goals as goal
 

@@ -26,12 +26,11 @@ use Rattle.demangle_lines_inner.proofs.Numbers.{array_code, handle_itself, handl
 use Rattle.demangle_lines_inner.proofs.Types.{none_from, first_from, void_never, void_one, void_other}
 use Rattle.demangle_printing.specs.Outcome.{first_state}
 use Rattle.demangle_context.specs.Options.{default_options}
-
 use Rattle.demangle_printing.specs.Arrays.{other, qualified}
 use Rattle.demangle_lines_inner.proofs.arrays.before_bounds.Given as goal
 
 abbrev pub invariant-loop-turn : goal.invariant-loop-turn
-invariant-loop-turn g l = 
+invariant-loop-turn g l =
     ArraysRemain (g.B.Below.at l.below) (page g.T.InnerNode.tree g.T.RefersTo.table g.W.DemangleWrite.seen l.fn.ctx)
     (page g.T.InnerNode.tree g.T.RefersTo.table g.W.DemangleWrite.seen l.ctx)
     (array_turns (world_of (g.B.Below.at l.below).refers) (length (page g.T.InnerNode.tree g.T.RefersTo.table g.W.DemangleWrite.seen l.fn.ctx).inner) (lent_scope g.T.InnerNode.tree l.scope) true)

@@ -29,7 +29,7 @@ use Rattle.demangle_context.specs.Options.{default_options}
 use Rattle.demangle_lines_inner.proofs.parameters.sift.Given as goal
 
 abbrev pub invariant-loop-turn : goal.invariant-loop-turn
-invariant-loop-turn g l = 
+invariant-loop-turn g l =
     RemainsToSift (g.B.Below.at l.below) (page g.T.InnerNode.tree g.T.RefersTo.table g.W.DemangleWrite.seen l.fn.ctx)
     (page g.T.InnerNode.tree g.T.RefersTo.table g.W.DemangleWrite.seen l.ctx) (is_kept (world_of (g.B.Below.at l.below).refers))
     (inside_of (world_of (g.B.Below.at l.below).refers) (lent_scope g.T.InnerNode.tree l.scope))

@@ -29,7 +29,7 @@ use Rattle.demangle_context.specs.Options.{default_options}
 use Rattle.demangle_lines_inner.proofs.parameters.types_from.Given as goal
 
 abbrev pub invariant-loop-number : goal.invariant-loop-number
-invariant-loop-number g l = 
+invariant-loop-number g l =
     ListRemains (g.B.Below.at l.below) (page g.T.InnerNode.tree g.T.RefersTo.table g.W.DemangleWrite.seen l.fn.ctx)
     (page g.T.InnerNode.tree g.T.RefersTo.table g.W.DemangleWrite.seen l.ctx)
     (lines_of (world_of (g.B.Below.at l.below).refers) (drop l.from (listed (world_of (g.B.Below.at l.below).refers) (option_map g.T.InnerNode.tree l.list))) (lent_scope g.T.InnerNode.tree l.scope))
