@@ -18,19 +18,19 @@ returns-in-Ok-parts_of-clause-text c =
     (parts_in c.in-Ok-parts_of.parts) c.parse.ensures c.print.ensures c.in-Ok.ensures.read
     c.in-Ok-parts_of.ensures.parts c.in-Ok-parts_of.ensures.joins
 
-pub returns-in-Err-parts_of-clause-answer : goal.returns-in-Err-parts_of-clause-answer
-returns-in-Err-parts_of-clause-answer c =
+pub returns-in-Ok-clause-answer : goal.returns-in-Ok-clause-answer
+returns-in-Ok-clause-answer c =
     let read = answer-read c.args.options.now c.args.name.now c.parse.result c.print.result
     (contents_of c.in-Ok.symbol) c.parse.ensures c.print.ensures c.in-Ok.ensures.read in
     answer-not-printed (parts_answer c.args.options.now c.args.name.now)
     (divided c.print.result (contents_of c.in-Ok.symbol)) c.in-Err-parts_of.error c.print_fault.result read
     c.print_fault.ensures c.in-Err-parts_of.ensures.parts
 
-pub returns-in-Err-parts_of-clause-text : goal.returns-in-Err-parts_of-clause-text
-returns-in-Err-parts_of-clause-text c =
-    text-refused c.args.options.now c.args.name.now c.print_fault.result (returns-in-Err-parts_of-clause-answer c)
+pub returns-in-Ok-clause-text : goal.returns-in-Ok-clause-text
+returns-in-Ok-clause-text c =
+    text-refused c.args.options.now c.args.name.now c.print_fault.result (returns-in-Ok-clause-answer c)
 
-pub returns-in-Err-clause-text : goal.returns-in-Err-clause-text
-returns-in-Err-clause-text c =
+pub returns-clause-text : goal.returns-clause-text
+returns-clause-text c =
     text-not-read c.args.options.now c.args.name.now c.parse.result c.in-Err.error c.read_fault.result c.parse.ensures
     c.read_fault.ensures c.in-Err.ensures.read

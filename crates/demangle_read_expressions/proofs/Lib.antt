@@ -1,0 +1,4 @@
+pub mod RowsRead
+pub mod Takes
+pub mod MemberNames
+pub mod ExpressionStarts

@@ -1,0 +1,4 @@
+pub mod Heads
+pub mod Operators
+pub mod MemberNames
+pub mod ExpressionStarts
