@@ -6,22 +6,25 @@
 
 mod calls;
 mod casts;
+mod expressions;
 mod first_bytes;
+mod folds;
+mod four;
 mod lists;
 mod members;
+mod news;
+mod operands;
 mod operators;
 mod unresolved;
 mod unresolved_parts;
 mod words;
 
-pub use calls::{braces, call, conversion, initializer, list};
-pub use casts::{cast, of_expression, of_type};
-pub use first_bytes::{ExpressionStart, expression_start};
-pub use members::{access, member_name, subobject, subobject_expr};
-pub use operators::{Operator, Word, counted_operator, simple_operator};
+pub use calls::initializer;
+pub use expressions::expression_by;
+pub use folds::fold_expr;
+pub use members::{member_name, subobject_expr};
 pub use unresolved::unresolved_name;
 pub use unresolved_parts::{
     base_unresolved_name, destructor_name, simple_id, unresolved_qualifier_level,
     unresolved_type_handle,
 };
-pub use words::{Head, expression_word};

@@ -1,4 +1,4 @@
-//! Parts of objects, and members.
+//! Parts of objects, members, and the sizes of packs.
 
 ghost use Rattle.std.specs.Prelude.{◌≡◌, ◌≤◌, ◌<◌, ℕ, true, IfErr, IfOk};
 ghost use Rattle.demangle_text.specs.declared.error.Error.TheVariants.{OutOfMemory};
@@ -6,18 +6,19 @@ ghost use Rattle.demangle_core.specs.Core.{Core, Tag, U, end, node, ◌⊕◌};
 ghost use Rattle.demangle_core.specs.Table.{added, size};
 ghost use Rattle.demangle_grammar.specs.Rule.{Row};
 ghost use Rattle.demangle_grammar.specs.Tree.{template_entry, template_name};
-ghost use Rattle.demangle_grammar.specs.Code.{close, cread};
-ghost use Rattle.demangle_forms.specs.ExpressionForms.{access_at, subobject_at};
-ghost use Rattle.demangle_cells.specs.Reads.{Reads, ReadsRow};
+ghost use Rattle.demangle_grammar.specs.Code.{all_at, close, cread};
+ghost use Rattle.demangle_forms.specs.ExpressionForms.{access_at, captured_pack_at, member_pointer_at};
+ghost use Rattle.demangle_forms.specs.ExpressionForms.{sizeof_pack_at, subobject_at};
+ghost use Rattle.demangle_cells.specs.Reads.{Reads, ReadsPart, ReadsRow};
 ghost use Rattle.demangle_cells.specs.Tags.{tag_of};
 ghost use Rattle.demangle_cells.specs.View.{Grown, Holds, table, view};
 ghost use Rattle.demangle_read_expressions.specs.MemberNames.{is_node};
 
 use crate::words::subobject_offset;
-use demangle_cells::{Arena, Cell, Depth, Part, Tag as CellTag, Text, passed};
+use demangle_cells::{Arena, Cell, Depth, ListOf, Part, Tag as CellTag, Text, passed};
 use demangle_read_below::Below;
-use demangle_read_rows::{add_member_template, word};
-use demangle_read_types::{made_one, made_two, restored, template_args};
+use demangle_read_rows::{add_member_template, function_param, template_param, word};
+use demangle_read_types::{all_arguments, made_one, made_two, restored, template_args};
 use demangle_read_unqualified::unqualified_name;
 use demangle_text::Result;
 
@@ -101,6 +102,98 @@ pub fn access<B: Below>(
     let answer = member_name(below, arena, depth, text, object.end);
     let member = restored(arena, mark, answer)?;
     made_two(arena, tag, object.id, member)
+}
+
+/// An object and a pointer to a member of it behind their word, ABI section 5.1.6.
+///
+/// ```text
+/// <expression> ::= ds <expression> <expression>
+/// ```
+#[tactic(auto, using(demangle_cells::proofs::Grows::grows, demangle_cells::proofs::Grows::cuts), unfolding(demangle_forms::specs::ExpressionForms::member_pointer_at))]
+pub fn pointer_to_member<B: Below>(
+    below: B,
+    arena: &mut Arena,
+    depth: Depth,
+    text: Text<'_>,
+    at: u32,
+) -> Result<Part>
+    requires can { B.can below }
+    requires room { depth.levels < B.most below }
+    ensures grown { Grown (view arena.old) (view arena.new) }
+    ensures reads { Reads text.entry at result (view arena.old) (view arena.new)
+        (λ s. close (member_pointer_at (cread depth.levels) depth.conversion s)) }
+{
+    let mark = arena.mark();
+    let object = below.expression(arena, depth, text, at)?;
+    let answer = below.expression(arena, depth, text, object.end);
+    let member = restored(arena, mark, answer)?;
+    made_two(arena, CellTag::ExpressionPointerToMember, object.id, member)
+}
+
+/// The size of a pack behind its word, ABI section 5.1.6: of a template parameter or of a function parameter.
+///
+/// ```text
+/// <expression> ::= sZ <template-param> | sZ <function-param>
+/// ```
+#[tactic(auto, using(demangle_cells::proofs::Grows::grows), unfolding(demangle_forms::specs::ExpressionForms::sizeof_pack_at))]
+pub fn sizeof_pack(arena: &mut Arena, depth: Depth, text: Text<'_>, at: u32) -> Result<Part>
+    ensures grown { Grown (view arena.old) (view arena.new) }
+    ensures reads { Reads text.entry at result (view arena.old) (view arena.new)
+        (λ s. close (sizeof_pack_at (cread depth.levels) depth.conversion s)) }
+{
+    if let Ok(param) = passed(template_param(arena, depth, text, at))? {
+        return made_one(arena, CellTag::ExpressionSizeofTemplatePack, param);
+    }
+    let param = function_param(arena, depth, text, at)?;
+    made_one(arena, CellTag::ExpressionSizeofFunctionPack, param)
+}
+
+/// Any number of template arguments, as one part.
+#[tactic(auto, using(demangle_cells::proofs::Grows::grows, demangle_cells::proofs::Waits::gathers, demangle_read_types::proofs::Waits::waits))]
+fn argument_list<B: Below>(
+    below: B,
+    arena: &mut Arena,
+    depth: Depth,
+    text: Text<'_>,
+    at: u32,
+) -> Result<Part>
+    requires can { B.can below }
+    requires room { depth.levels < B.most below }
+    ensures grown { Grown (view arena.old) (view arena.new) }
+    ensures reads { ReadsPart text.entry at result (view arena.old) (view arena.new)
+        (λ s. all_at (cread depth.levels) depth.conversion Row.template_arg s) }
+{
+    let from = arena.waiting();
+    match all_arguments(below, arena, depth, text, at) {
+        Ok(end) => arena.gathered(from, ListOf::Node(CellTag::Several), Ok(end)),
+        Err(error) => arena.gathered(from, ListOf::Node(CellTag::Several), Err(error)),
+    }
+}
+
+/// The size of a template parameter pack that an alias template captured, behind its word, ABI section 5.1.6.
+///
+/// ```text
+/// <expression> ::= sP <template-arg>* E
+/// ```
+#[tactic(auto, using(demangle_cells::proofs::Grows::grows, demangle_cells::proofs::Grows::cuts), unfolding(demangle_forms::specs::ExpressionForms::captured_pack_at))]
+pub fn sizeof_captured_pack<B: Below>(
+    below: B,
+    arena: &mut Arena,
+    depth: Depth,
+    text: Text<'_>,
+    at: u32,
+) -> Result<Part>
+    requires can { B.can below }
+    requires room { depth.levels < B.most below }
+    ensures grown { Grown (view arena.old) (view arena.new) }
+    ensures reads { Reads text.entry at result (view arena.old) (view arena.new)
+        (λ s. close (captured_pack_at (cread depth.levels) depth.conversion s)) }
+{
+    let mark = arena.mark();
+    let args = argument_list(below, arena, depth, text, at)?;
+    let end = restored(arena, mark, word(text, args.end, b"E"))?;
+    let args = Part { id: args.id, end };
+    made_one(arena, CellTag::ExpressionSizeofCapturedTemplatePack, args)
 }
 
 /// The name of a member. With template arguments behind it the name becomes a component of the second list, after those
