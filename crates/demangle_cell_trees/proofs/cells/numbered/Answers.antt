@@ -1,0 +1,6 @@
+use Rattle.demangle_cell_trees.specs.ArenaTrees.{table_of, tree_at}
+use Rattle.demangle_cell_trees.proofs.cells.numbered.Goals as goal
+
+pub returns : goal.returns
+unfolding table_of
+returns c = c.numbered.ensures (tree_at c.args.subs.now)

@@ -1,0 +1,134 @@
+-- What is looked up in trees.
+use Rattle.std.specs.Prelude.{◌≡◌, ℕ, suc, ◌+◌, ◌<◌, Bool, true, false, List, Option, Some, None, IfSome, option_map}
+use Rattle.std.specs.Prelude.{◌==◌, ◌&&◌, nat_lt}
+use Rattle.demangle_core.specs.Core.{Core, Tag, end, node, place, number, flag, chosen, ref, mark, N, U}
+use Rattle.demangle_core.specs.Table.{Table}
+use Rattle.demangle_core.specs.Lookups.{Next, answer, nothing, at, else_next, first_step, leaf_node, leaf_word}
+use Rattle.demangle_core.specs.Lookups.{args_node, special_node, no_word, steps_of, leaf_step, component_args}
+use Rattle.demangle_core.specs.Lookups.{special_step, settled, as_prefix, as_type}
+use Rattle.demangle_printing.specs.Trees.{trees_of}
+use Rattle.demangle_printing.specs.World.{nth}
+use Rattle.demangle_cells.specs.declared.cell.Cell.{Cell}
+use Rattle.demangle_cells.specs.declared.cell.Cell.TheVariants as of_cell
+use Rattle.demangle_cell_trees.specs.NodeTrees.{node_tree}
+use Rattle.demangle_cell_trees.specs.declared.roles.Role.{Role}
+use Rattle.demangle_cell_trees.specs.declared.roles.Role.TheVariants as of_role
+use Rattle.demangle_cell_trees.specs.declared.roles.Sought.{Sought}
+use Rattle.demangle_cell_trees.specs.declared.roles.Sought.TheVariants as of_sought
+use Rattle.demangle_cell_trees.specs.declared.turns.Step.{Step}
+use Rattle.demangle_cell_trees.specs.declared.turns.Step.TheVariants as of_step
+use Rattle.demangle_cell_trees.specs.declared.turns.Turn.{Turn}
+use Rattle.demangle_cell_trees.specs.declared.turns.Turn.TheVariants as of_turn
+
+-- ---- the look-ups
+abbrev pub node_of : Sought → Tag → Core → List (Next Core) → Next Core
+node_of of_sought.LeafName = leaf_node
+node_of of_sought.PrefixArguments = args_node
+node_of of_sought.TypeArguments = args_node
+node_of of_sought.Special = special_node
+
+abbrev pub word_of : Sought → ℕ → ℕ → Core → Next Core
+word_of of_sought.LeafName = leaf_word
+word_of of_sought.PrefixArguments = no_word
+word_of of_sought.TypeArguments = no_word
+word_of of_sought.Special = no_word
+
+-- where one comes to in a tree
+abbrev pub step_in : Sought → Core → Next Core
+step_in s c = first_step (steps_of (node_of s) (word_of s) c)
+
+-- in a component
+abbrev pub component_in : Sought → Core → Next Core
+component_in of_sought.LeafName c = leaf_step c
+component_in of_sought.PrefixArguments c = component_args as_prefix c
+component_in of_sought.TypeArguments c = component_args as_type c
+component_in of_sought.Special c = special_step c
+
+abbrev pub found_in : Sought → Table → Core → Option Core
+found_in s t c = settled (component_in s) t (step_in s c)
+
+-- ---- by where it is in a node
+abbrev pub or_nothing : Option (Next Core) → Next Core
+or_nothing None = nothing
+or_nothing (Some s) = s
+
+abbrev pub choice_of : Option (Next Core) → Next Core → Next Core
+choice_of None b = nothing
+choice_of (Some a) b = else_next a b
+
+abbrev pub role_says : Role → Core → List (Next Core) → Next Core
+role_says of_role.Itself x steps = answer x
+role_says (of_role.Part n) x steps = or_nothing (nth n steps)
+role_says (of_role.Choice a b) x steps = choice_of (nth a steps) (or_nothing (nth b steps))
+role_says of_role.Nothing x steps = nothing
+
+-- where one comes to in a part, if it is there
+abbrev pub part_says : Sought → Option Core → Next Core
+part_says s o = or_nothing (option_map (step_in s) o)
+
+-- in a component, where a look-up of arguments asks for its sort
+abbrev pub holds_it : Sought → Tag → Bool
+holds_it of_sought.PrefixArguments Tag.SubstitutablePrefix = true
+holds_it of_sought.PrefixArguments t = false
+holds_it of_sought.TypeArguments Tag.SubstitutableTypeNode = true
+holds_it of_sought.TypeArguments t = false
+holds_it s t = true
+
+abbrev pub if_holds : Bool → Next Core → Next Core
+if_holds true s = s
+if_holds false s = nothing
+
+abbrev pub arguments_in : Sought → Core → Next Core
+arguments_in s (node t c n) = if_holds (holds_it s t) (part_says s (nth 0 (trees_of c)))
+arguments_in s _ = nothing
+
+-- ---- words
+abbrev pub is_leaf_word : ℕ → ℕ → Bool
+is_leaf_word t w = (t == 2) && nat_lt 0 w
+
+abbrev pub word_in : Cell → Option (ℕ × ℕ)
+word_in (of_cell.Word t w) = Some (t, w)
+word_in _ = None
+
+-- ---- steps and turns
+abbrev pub next_of : Step → Next Core
+next_of (of_step.Answer n) = answer (node_tree n)
+next_of of_step.Nothing = nothing
+next_of (of_step.Numbered k) = at N k
+next_of (of_step.Other k) = at U k
+
+abbrev pub is_nothing : Next Core → Bool
+is_nothing nothing = true
+is_nothing _ = false
+
+-- how many trees a row has with all of their parts
+abbrev pub size : Core → ℕ
+size end = 0
+size (node t c n) = suc (size c + size n)
+size (place i j n) = suc (size n)
+size (number v n) = suc (size n)
+size (flag b n) = suc (size n)
+size (chosen t k n) = suc (size n)
+size (ref w k n) = suc (size n)
+size (mark i n) = suc (size n)
+
+-- What is to be done for a tree: nothing more, to go into a part of it, or into one and maybe into another.
+pub record Goes (s : Sought) (x y : Core) : Type 0 where
+  pub is : step_in s x ≡ step_in s y
+  pub smaller : size y < size x
+
+pub record Chooses (s : Sought) (x y : Core) (z : Option Core) : Type 0 where
+  pub is : step_in s x ≡ else_next (step_in s y) (part_says s z)
+  pub smaller : size y < size x
+  pub other : IfSome z (λ c. size c < size x)
+
+-- the same where the first may not be there
+pub record Offers (s : Sought) (x : Core) (y z : Option Core) : Type 0 where
+  pub is : step_in s x ≡ choice_of (option_map (step_in s) y) (part_says s z)
+  pub smaller : IfSome y (λ c. size c < size x)
+  pub other : IfSome z (λ c. size c < size x)
+
+abbrev pub Turns : Sought → Core → Turn → Type 0
+Turns s x (of_turn.Done st) = next_of st ≡ step_in s x
+Turns s x (of_turn.Into n) = Goes s x (node_tree n)
+Turns s x (of_turn.Either n o) = Chooses s x (node_tree n) (option_map node_tree o)

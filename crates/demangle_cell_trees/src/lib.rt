@@ -1,0 +1,23 @@
+//! Nodes of the flat tree as the trees of lines: small values that name a tree of an arena.
+#![tactic(auto)]
+
+mod cells;
+mod counts;
+mod held;
+mod laws;
+mod lookups;
+mod node;
+mod parts;
+mod roles;
+mod rows;
+mod seen;
+mod shapes;
+mod tags;
+mod texts;
+mod tree;
+mod turns;
+mod values;
+mod words;
+
+pub use laws::each_arena_has_trees;
+pub use node::Node;

@@ -1,0 +1,75 @@
+//! Nodes as the trees of lines.
+
+use crate::held::printed_of;
+use crate::lookups::found;
+use crate::node::Node;
+use crate::roles::Sought;
+use crate::seen::{count_of, part_of, shape_of};
+use crate::texts::{leaf_text_of, text_of};
+use crate::values::{began_of, bytes_of, index_in, number_in};
+use demangle_cells::Arena;
+use demangle_lines::{Number, Shape, Tree};
+
+#[tactic(auto, unfolding(demangle_core::specs::Lookups::leaf_name, demangle_core::specs::Lookups::template_args, demangle_core::specs::Lookups::is_special))]
+impl<'a> Tree<&'a Arena> for Node<'a> {
+    #[inline(always)]
+    fn shape(self, subs: &&'a Arena) -> Shape {
+        shape_of(self, *subs)
+    }
+
+    #[inline(always)]
+    fn count(self, subs: &&'a Arena) -> usize {
+        count_of(self, *subs)
+    }
+
+    #[inline(always)]
+    fn part(self, number: usize, subs: &&'a Arena) -> Option<Node<'a>> {
+        part_of(self, number, *subs)
+    }
+
+    #[inline(always)]
+    fn printed(self, subs: &&'a Arena) -> Option<Node<'a>> {
+        printed_of(self, *subs)
+    }
+
+    #[inline(always)]
+    fn bytes<'s>(self, input: &'s [u8]) -> &'s [u8] {
+        bytes_of(self, input)
+    }
+
+    fn number(self) -> Number {
+        number_in(self)
+    }
+
+    fn index(self) -> usize {
+        index_in(self)
+    }
+
+    fn text(self) -> &'static str {
+        text_of(self)
+    }
+
+    fn leaf_text(self) -> &'static str {
+        leaf_text_of(self)
+    }
+
+    fn began(self) -> usize {
+        began_of(self)
+    }
+
+    fn leaf_name(self, subs: &&'a Arena) -> Option<Node<'a>> {
+        found(Sought::LeafName, self, *subs)
+    }
+
+    fn prefix_arguments(self, subs: &&'a Arena) -> Option<Node<'a>> {
+        found(Sought::PrefixArguments, self, *subs)
+    }
+
+    fn type_arguments(self, subs: &&'a Arena) -> Option<Node<'a>> {
+        found(Sought::TypeArguments, self, *subs)
+    }
+
+    fn is_special(self, subs: &&'a Arena) -> bool {
+        found(Sought::Special, self, *subs).is_some()
+    }
+}

@@ -1,0 +1,2 @@
+pub mod PlaceOf
+pub mod MayPrint

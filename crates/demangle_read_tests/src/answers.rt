@@ -1,0 +1,103 @@
+//! What a reading answers, as one text.
+
+use demangle_cells::{Arena, Cell, Tag};
+use demangle_read::{read_front, read_whole};
+use demangle_text::ParseOptions;
+use std::alloc::{AllocError, Global};
+
+/// The bytes, the limit on levels, and what the reading answers.
+pub(crate) type Reading = (&'static [u8], u32, &'static str);
+
+/// More components than any name here has.
+const MANY: u32 = 64;
+
+fn numbered(arena: &Arena) -> u32 {
+    for number in 0..MANY {
+        if arena.numbered(number).is_none() {
+            return number;
+        }
+    }
+    MANY
+}
+
+fn others(arena: &Arena) -> u32 {
+    for number in 0..MANY {
+        if arena.other(number).is_none() {
+            return number;
+        }
+    }
+    MANY
+}
+
+fn root(arena: &Arena, id: u32) -> &'static str {
+    match arena.cell(id) {
+        Some(Cell::Two(Tag::MangledNameEncoding, _, _)) => "encoding",
+        Some(Cell::Two(Tag::MangledNameBlockInvoke, _, _)) => "block",
+        Some(Cell::One(Tag::MangledNameTopLevelType, _)) => "type",
+        Some(Cell::One(Tag::MangledNameGlobalCtorDtor, _)) => "global",
+        _ => "none",
+    }
+}
+
+fn front(alloc: Global, arena: &mut Arena, bytes: &[u8], limit: u32) -> Result<String, AllocError> {
+    let options = ParseOptions::default().recursion_limit(limit.max(1));
+    match read_front(arena, bytes, &options) {
+        Ok(name) => {
+            let (root, end) = (root(arena, name.id), name.end);
+            let (numbered, others) = (numbered(arena), others(arena));
+            format!(in alloc; "{root} {end}, components {numbered} {others}")
+        }
+        Err(error) => format!(in alloc; "{error:?}"),
+    }
+}
+
+fn whole(alloc: Global, arena: &mut Arena, bytes: &[u8], limit: u32) -> Result<String, AllocError> {
+    let options = ParseOptions::default().recursion_limit(limit.max(1));
+    match read_whole(arena, bytes, &options) {
+        Ok(id) => {
+            let root = root(arena, id);
+            let (numbered, others) = (numbered(arena), others(arena));
+            format!(in alloc; "{root}, components {numbered} {others}")
+        }
+        Err(error) => format!(in alloc; "{error:?}"),
+    }
+}
+
+fn is_text(answer: Result<String, AllocError>, wanted: &str) -> bool {
+    match answer {
+        Ok(text) => text.as_str() == wanted,
+        Err(_) => false,
+    }
+}
+
+/// The number of the first name whose front is read otherwise than its text says, all into this arena.
+pub(crate) fn first_wrong_front(
+    alloc: Global,
+    arena: &mut Arena,
+    readings: &[Reading],
+) -> Option<usize> {
+    for (i, reading) in readings.iter().enumerate() {
+        let (bytes, limit, wanted) = *reading;
+        let answer = front(alloc, arena, bytes, limit);
+        if !is_text(answer, wanted) {
+            return Some(i);
+        }
+    }
+    None
+}
+
+/// The same, read whole.
+pub(crate) fn first_wrong_whole(
+    alloc: Global,
+    arena: &mut Arena,
+    readings: &[Reading],
+) -> Option<usize> {
+    for (i, reading) in readings.iter().enumerate() {
+        let (bytes, limit, wanted) = *reading;
+        let answer = whole(alloc, arena, bytes, limit);
+        if !is_text(answer, wanted) {
+            return Some(i);
+        }
+    }
+    None
+}
