@@ -148,8 +148,8 @@ module _ (F : ℕ → Core) (l : List ℕ) where
       record { cell = t.cell; is = ap F z ∙ t.is }
 
 told_in : (v : View) → Holds (trees v) v → (k : ℕ) → Told (trees v) v.list (trees v k)
-told_in v h k =
-    by (nat_lt k first_cell) (nat_lt k (first_cell + length v.cells)) (nat_le first_reference k) refl refl refl
+told_in v h k = by (nat_lt k first_cell) (nat_lt k (first_cell + length v.cells)) (nat_le first_reference k) refl refl
+    refl
   where
     by : (p q r : Bool) → nat_lt k first_cell ≡ p → nat_lt k (first_cell + length v.cells) ≡ q
         → nat_le first_reference k ≡ r → Told (trees v) v.list (trees v k)

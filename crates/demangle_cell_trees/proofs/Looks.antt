@@ -1,5 +1,5 @@
 -- What is seen of the tree of a cell.
-use Rattle.std.proofs.Common.{◌≡◌, refl, ap, ◌∙◌, sym, ℕ, ℤ, suc, zero, Bool, true, false, List, []}
+use Rattle.std.proofs.Common.{◌≡◌, refl, ap, ◌∙◌, sym, ℕ, suc, zero, Bool, true, false, List, []}
 use Rattle.std.proofs.Common.{◌∷◌, length, map, Option, Some, None, IfSome, pos}
 use Rattle.std.specs.Prelude.{option_map}
 use Rattle.demangle_core.specs.Core as core
@@ -14,12 +14,12 @@ use Rattle.demangle_cells.specs.declared.cell.Cell.{Cell}
 use Rattle.demangle_cells.specs.declared.cell.Cell.TheVariants as of_cell
 use Rattle.demangle_printing.specs.World.{Seen, parts_seen, nth}
 use Rattle.demangle_printing.specs.World as seen
-use Rattle.demangle_printing.specs.Reader.{bytes_seen, index_seen}
+use Rattle.demangle_printing.specs.Reader.{bytes_seen}
 use Rattle.demangle_printing.specs.Trees.{trees_of, look_in, look_component, began_at}
 use Rattle.demangle_lines.specs.Shapes.{shape_in, value_seen, text_seen, leaf_text_seen}
 use Rattle.demangle_cell_trees.specs.ArenaTrees.{IsCell, IsAbsent, members_in, members_of_cell}
 use Rattle.demangle_cell_trees.specs.ArenaTrees.{member_row, tree_at}
-use Rattle.demangle_cell_trees.specs.Own.{is_end, is_single, own_shape_in, node_only, parts_in, has_row, row_of}
+use Rattle.demangle_cell_trees.specs.Own.{is_end, is_single, own_shape_in, parts_in, has_row, row_of}
 use Rattle.demangle_cell_trees.specs.Own.{is_reference, place_in, value_in, began_in, text_in, leaf_text_in}
 use Rattle.demangle_cell_trees.proofs.Hold.{Told, told}
 
@@ -149,27 +149,6 @@ module _ (table : Table) (input : List ℕ) where
   plain_parts (ref w k n) s h = cc
   plain_parts (mark i n) s h = cc
 
--- ---- components
-component_sees : (x : Core) → is_single x ≡ true → shape_in (look_component (Some x)) ≡ node_only (own_shape_in x)
-component_sees end h = cc
-component_sees (node t c n) h = refl
-component_sees (place i j n) h = refl
-component_sees (number v n) h = refl
-component_sees (flag b n) h = refl
-component_sees (chosen t k n) h = refl
-component_sees (ref w k n) h = cc
-component_sees (mark i n) h = cc
-
-component_has : (x : Core) → is_single x ≡ true → parts_seen (look_component (Some x)) ≡ parts_in x
-component_has end h = cc
-component_has (node t c n) h = refl
-component_has (place i j n) h = refl
-component_has (number v n) h = refl
-component_has (flag b n) h = refl
-component_has (chosen t k n) h = refl
-component_has (ref w k n) h = cc
-component_has (mark i n) h = cc
-
 -- ---- the trees of an arena
 module _ (a : Arena) (k : ℕ) (c : Cell) (e : IsCell a k c) where
   abbrev cell_tree : Core
@@ -191,12 +170,6 @@ module _ (a : Arena) (k : ℕ) (c : Cell) (e : IsCell a k c) where
   pub cell_parts : is_reference c ≡ false → (t : Table) (input : List ℕ)
       → parts_seen (look_in t input (tree_at a k)) ≡ parts_in cell_tree
   cell_parts h t input = plain_parts t input (tree_at a k) (single a k) (is_plain_cell h) ∙ own_parts_are
-
-  pub cell_component : shape_in (look_component (Some (tree_at a k))) ≡ node_only (own_shape_in cell_tree)
-  cell_component = component_sees (tree_at a k) (single a k) ∙ ap node_only own_shape_is
-
-  pub cell_component_parts : parts_seen (look_component (Some (tree_at a k))) ≡ parts_in cell_tree
-  cell_component_parts = component_has (tree_at a k) (single a k) ∙ own_parts_are
 
 -- rows of the arena
 pub row_parts_in : (a : Arena) (c : Cell) → has_row c ≡ true
@@ -281,7 +254,8 @@ bytes_of_cell F l (of_cell.Many t s n) table input =
     of_node bytes_seen [] refl (λ u xs. refl) table input (tag_of t) (row F (span l s n)) end
 bytes_of_cell F l (of_cell.Reference k) table input =
     of_component bytes_seen [] refl (λ u xs. refl) (entry_at N k table)
-bytes_of_cell F l (of_cell.Other k) table input = of_component bytes_seen [] refl (λ u xs. refl) (entry_at U k table)
+bytes_of_cell F l (of_cell.Other k) table input =
+    of_component bytes_seen [] refl (λ u xs. refl) (entry_at U k table)
 bytes_of_cell F l _ table input = refl
 
 pub value_of_cell : (F : ℕ → Core) (l : List ℕ) (c : Cell) (table : Table) (input : List ℕ)
@@ -508,12 +482,3 @@ members_began a k =
     let m : members_in (tree_at a k) ≡ members_of_cell (tree_at a) (view a).list d.cell =
     members_are a k d.cell (record { is = d.is }) in
     sym (ap began_at m ∙ members_begin (tree_at a) (single a) (view a).list d.cell)
-
--- the number that isn't below zero
-abbrev pub no_less : ℤ → ℕ
-no_less (pos k) = k
-no_less _ = 0
-
-pub index_of_value : (s : Seen Core) → index_seen s ≡ no_less (value_seen s)
-index_of_value (seen.number (pos k)) = refl
-index_of_value _ = refl

@@ -10,8 +10,8 @@ use Rattle.demangle_cell_trees.specs.Steps.{role_says, node_of}
 use Rattle.demangle_cell_trees.specs.declared.roles.Sought.{Sought}
 use Rattle.demangle_cell_trees.specs.declared.roles.Sought.TheVariants as of_sought
 
-leaf_says : (t : Tag) (x : Core) (steps : List (Next Core))
-    → leaf_node (tag_of t) x steps ≡ role_says (leaf_role t) x steps
+leaf_says : (t : Tag) (x : Core) (steps : List (Next Core)) → leaf_node (tag_of t) x steps
+    ≡ role_says (leaf_role t) x steps
 leaf_says of_tag.SourceName x steps = refl
 leaf_says of_tag.ClosureTypeName x steps = refl
 leaf_says of_tag.UnnamedTypeName x steps = refl
@@ -96,8 +96,8 @@ leaf_says of_tag.PrefixDataMember x (a0 ∷ []) = refl
 leaf_says of_tag.PrefixDataMember x (a0 ∷ a1 ∷ steps) = refl
 leaf_says _ x steps = refl
 
-arguments_say : (t : Tag) (x : Core) (steps : List (Next Core))
-    → args_node (tag_of t) x steps ≡ role_says (arguments_role t) x steps
+arguments_say : (t : Tag) (x : Core) (steps : List (Next Core)) → args_node (tag_of t) x steps
+    ≡ role_says (arguments_role t) x steps
 arguments_say of_tag.TemplateArgs x steps = refl
 arguments_say of_tag.BackReference x [] = refl
 arguments_say of_tag.BackReference x (a0 ∷ steps) = refl
@@ -142,8 +142,8 @@ arguments_say of_tag.TypeNodeRvalueRef x [] = refl
 arguments_say of_tag.TypeNodeRvalueRef x (a0 ∷ steps) = refl
 arguments_say _ x steps = refl
 
-special_says : (t : Tag) (x : Core) (steps : List (Next Core))
-    → special_node (tag_of t) x steps ≡ role_says (special_role t) x steps
+special_says : (t : Tag) (x : Core) (steps : List (Next Core)) → special_node (tag_of t) x steps
+    ≡ role_says (special_role t) x steps
 special_says of_tag.UnqualifiedNameCtorDtor x steps = refl
 special_says of_tag.OperatorNameConversion x steps = refl
 special_says of_tag.BackReference x [] = refl

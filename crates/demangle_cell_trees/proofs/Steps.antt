@@ -3,11 +3,11 @@ use Rattle.std.proofs.Common.{◌≡◌, refl, ap, ◌∙◌, sym, ℕ, suc, zer
 use Rattle.std.proofs.Common.{map, arith, Option, Some, None, IfSome, option_map}
 use Rattle.demangle_core.specs.Core as core
 use Rattle.demangle_core.specs.Core.{Core, end, node, place, number, flag, chosen, ref, mark}
-use Rattle.demangle_core.specs.Lookups.{Next, answer, nothing, at, through, else_next, first_step, steps_of}
+use Rattle.demangle_core.specs.Lookups.{Next, nothing, at, first_step, steps_of}
 use Rattle.demangle_core.specs.Lookups.{args_component, args_step, as_prefix, as_type}
 use Rattle.demangle_cells.specs.Tags.{tag_of}
 use Rattle.demangle_cells.specs.declared.tag.Tag.{Tag}
-use Rattle.demangle_cells.specs.Cells.{tree, row, span}
+use Rattle.demangle_cells.specs.Cells.{row, span}
 use Rattle.demangle_cells.specs.View.{view}
 use Rattle.demangle_cells.specs.declared.arena.Arena.{Arena}
 use Rattle.demangle_cells.specs.declared.cell.Cell.{Cell}
@@ -18,8 +18,8 @@ use Rattle.demangle_cell_trees.specs.ArenaTrees.{members_in, members_of_cell, tr
 use Rattle.demangle_cell_trees.specs.Own.{is_single, parts_in}
 use Rattle.demangle_cell_trees.specs.Roles.{role_in, tag_in}
 use Rattle.demangle_cell_trees.specs.Steps.{node_of, word_of, step_in, component_in, or_nothing, choice_of, role_says}
-use Rattle.demangle_cell_trees.specs.Steps.{part_says, holds_it, if_holds, arguments_in, word_in, size}
-use Rattle.demangle_cell_trees.specs.Steps.{Chooses, Offers, is_nothing}
+use Rattle.demangle_cell_trees.specs.Steps.{part_says, holds_it, if_holds, arguments_in, size}
+use Rattle.demangle_cell_trees.specs.Steps.{Offers}
 use Rattle.demangle_cell_trees.specs.declared.roles.Role.TheVariants as of_role
 use Rattle.demangle_cell_trees.specs.declared.roles.Sought.{Sought}
 use Rattle.demangle_cell_trees.specs.declared.roles.Sought.TheVariants as of_sought
@@ -103,9 +103,6 @@ each_smaller n x (Some y) h = smaller n x y (sym h)
 
 -- ---- a node, by where in it it is
 module _ (s : Sought) (t : Tag) (x : Core) (g : is_single x ≡ true) (h : tag_in x ≡ Some (tag_of t)) where
-  pub itself_is : role_in s t ≡ of_role.Itself → answer x ≡ step_in s x
-  itself_is r = sym (node_says s t x g h ∙ ap (λ z. role_says z x (map (step_in s) (parts_in x))) r)
-
   pub nothing_is : role_in s t ≡ of_role.Nothing → nothing ≡ step_in s x
   nothing_is r = sym (node_says s t x g h ∙ ap (λ z. role_says z x (map (step_in s) (parts_in x))) r)
 
@@ -130,40 +127,12 @@ module _ (s : Sought) (t : Tag) (x : Core) (g : is_single x ≡ true) (h : tag_i
         other = each_smaller m x p f;
       }
 
--- ---- words
-pub word_is : (F : ℕ → Core) (l : List ℕ) (c : Cell) (t w : ℕ) → Some (t, w) ≡ word_in c
-    → tree F l c ≡ chosen t w end
-word_is F l (of_cell.Word u v) t w h =
-    let e : (t, w) ≡ (u, v) = some_is (t, w) (u, v) h in
-    ap (λ p. chosen p.0 p.1 end) (sym e)
-word_is F l _ t w h = cc
-
-pub no_word_is : (s : Sought) (F : ℕ → Core) (l : List ℕ) (c : Cell) → None ≡ word_in c
-    → tag_in (tree F l c) ≡ None → nothing ≡ step_in s (tree F l c)
-no_word_is s F l (of_cell.Word t w) h e = cc
-no_word_is s F l (of_cell.Place i j) h e = refl
-no_word_is s F l (of_cell.Number v) h e = refl
-no_word_is s F l (of_cell.Flag b) h e = refl
-no_word_is s F l _ h e = cc
-
 -- ---- what nothing is looked up in
 several_is : (s : Sought) (c : Core) → nothing ≡ step_in s (node core.Tag.Several c end)
 several_is of_sought.LeafName c = refl
 several_is of_sought.PrefixArguments c = refl
 several_is of_sought.TypeArguments c = refl
 several_is of_sought.Special c = refl
-
-pub builtin_is : (s : Sought) (c : Core) → nothing ≡ step_in s (node core.Tag.BuiltinTypeStandard c end)
-builtin_is of_sought.LeafName c = refl
-builtin_is of_sought.PrefixArguments c = refl
-builtin_is of_sought.TypeArguments c = refl
-builtin_is of_sought.Special c = refl
-
-pub absent_has : (s : Sought) (x : Core) → x ≡ node core.Tag.Absent end end → nothing ≡ step_in s x
-absent_has of_sought.LeafName x e = rw e refl
-absent_has of_sought.PrefixArguments x e = rw e refl
-absent_has of_sought.TypeArguments x e = rw e refl
-absent_has of_sought.Special x e = rw e refl
 
 members_step : (s : Sought) (F : ℕ → Core) (l : List ℕ) (c : Cell) → nothing ≡ step_in s (members_of_cell F l c)
 members_step s F l (of_cell.Arguments i start count) = several_is s (row F (span l start count))
@@ -189,16 +158,12 @@ tagged s (chosen u k n) t h = cc
 tagged s (ref w k n) t h = cc
 tagged s (mark i n) t h = cc
 
-pub untagged : (s : Sought) (x : Core) → tag_in x ≡ None → nothing ≡ arguments_in s x
-untagged s (node u c n) h = cc
-untagged s _ h = refl
-
 first_of : (s : Sought) (xs : List Core) → first_step (map (step_in s) xs) ≡ part_says s (nth 0 xs)
 first_of s [] = refl
 first_of s (x ∷ xs) = refl
 
-prefix_if : (t : core.Tag) (p : Next Core)
-    → args_component as_prefix t p ≡ if_holds (holds_it of_sought.PrefixArguments t) p
+prefix_if : (t : core.Tag) (p : Next Core) → args_component as_prefix t p
+    ≡ if_holds (holds_it of_sought.PrefixArguments t) p
 prefix_if core.Tag.SubstitutablePrefix p = refl
 prefix_if _ p = refl
 
@@ -233,27 +198,6 @@ prefix_arguments_in a k = prefix_of (tree_at a k) (single a k)
 pub type_arguments_in : (a : Arena) (k : ℕ) → arguments_in of_sought.TypeArguments (tree_at a k)
     ≡ component_in of_sought.TypeArguments (tree_at a k)
 type_arguments_in a k = type_of (tree_at a k) (single a k)
-
--- ---- the first of two, and else the second
-nothing_of : (n : Next Core) → is_nothing n ≡ true → n ≡ nothing
-nothing_of nothing h = refl
-nothing_of _ h = cc
-
-else_of : (n b : Next Core) → is_nothing n ≡ false → else_next n b ≡ n
-else_of (answer x) b h = refl
-else_of nothing b h = cc
-else_of (at w k) b h = refl
-else_of (through o) b h = refl
-
-pub first_nothing : (s : Sought) (x y : Core) (z : Option Core) (n : Next Core) → Chooses s x y z
-    → n ≡ step_in s y → is_nothing n ≡ true → part_says s z ≡ step_in s x
-first_nothing s x y z n c e h =
-    sym (c.is ∙ ap (λ q. else_next q (part_says s z)) (sym e ∙ nothing_of n h))
-
-pub first_there : (s : Sought) (x y : Core) (z : Option Core) (n : Next Core) → Chooses s x y z
-    → n ≡ step_in s y → is_nothing n ≡ false → n ≡ step_in s x
-first_there s x y z n c e h =
-    sym (c.is ∙ (ap (λ q. else_next q (part_says s z)) (sym e) ∙ else_of n (part_says s z) h))
 
 -- ---- components
 abbrev is_whole : Sought → Bool

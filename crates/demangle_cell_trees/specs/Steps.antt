@@ -1,6 +1,6 @@
 -- What is looked up in trees.
-use Rattle.std.specs.Prelude.{◌≡◌, ℕ, suc, ◌+◌, ◌<◌, Bool, true, false, List, Option, Some, None, IfSome, option_map}
-use Rattle.std.specs.Prelude.{◌==◌, ◌&&◌, nat_lt}
+use Rattle.std.specs.Prelude.{◌≡◌, ℕ, suc, ◌+◌, ◌<◌, Bool, true, false, List, Option, Some, None, IfSome}
+use Rattle.std.specs.Prelude.{option_map, ◌==◌, ◌&&◌, nat_lt}
 use Rattle.demangle_core.specs.Core.{Core, Tag, end, node, place, number, flag, chosen, ref, mark, N, U}
 use Rattle.demangle_core.specs.Table.{Table}
 use Rattle.demangle_core.specs.Lookups.{Next, answer, nothing, at, else_next, first_step, leaf_node, leaf_word}

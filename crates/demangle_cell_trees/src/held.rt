@@ -26,8 +26,8 @@ pub(crate) enum Holding {
     Nothing,
 }
 
-/// Whether what is printed for a node whose tag has this number is its one part: that of a handle that holds its
-/// tree, or of a component.
+/// Whether the part of a node whose tag has this number is printed for it: of a handle that holds its tree, or of a
+/// component.
 #[inline(always)]
 fn is_holder(tag: u8) -> bool
     ensures { result ≡ is_holder tag }

@@ -10,7 +10,6 @@ use crate::values::{began_of, bytes_of, index_in, number_in};
 use demangle_cells::Arena;
 use demangle_lines::{Number, Shape, Tree};
 
-#[tactic(auto, unfolding(demangle_core::specs::Lookups::leaf_name, demangle_core::specs::Lookups::template_args, demangle_core::specs::Lookups::is_special))]
 impl<'a> Tree<&'a Arena> for Node<'a> {
     #[inline(always)]
     fn shape(self, subs: &&'a Arena) -> Shape {
@@ -57,18 +56,22 @@ impl<'a> Tree<&'a Arena> for Node<'a> {
         began_of(self)
     }
 
+    #[tactic(auto, unfolding(demangle_core::specs::Lookups::leaf_name))]
     fn leaf_name(self, subs: &&'a Arena) -> Option<Node<'a>> {
         found(Sought::LeafName, self, *subs)
     }
 
+    #[tactic(auto, unfolding(demangle_core::specs::Lookups::template_args))]
     fn prefix_arguments(self, subs: &&'a Arena) -> Option<Node<'a>> {
         found(Sought::PrefixArguments, self, *subs)
     }
 
+    #[tactic(auto, unfolding(demangle_core::specs::Lookups::template_args))]
     fn type_arguments(self, subs: &&'a Arena) -> Option<Node<'a>> {
         found(Sought::TypeArguments, self, *subs)
     }
 
+    #[tactic(auto, unfolding(demangle_core::specs::Lookups::is_special))]
     fn is_special(self, subs: &&'a Arena) -> bool {
         found(Sought::Special, self, *subs).is_some()
     }

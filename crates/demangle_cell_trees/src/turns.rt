@@ -8,8 +8,8 @@ ghost use Rattle.demangle_cell_trees.specs.ArenaTrees.{IsCell, tree_at};
 ghost use Rattle.demangle_cell_trees.specs.NodeTrees.{node_tree};
 ghost use Rattle.demangle_cell_trees.specs.Own.{parts_in};
 ghost use Rattle.demangle_cell_trees.specs.Roles.{tag_in};
-ghost use Rattle.demangle_cell_trees.specs.Steps.{Offers, Turns, is_leaf_word, next_of, part_says, size, step_in};
-ghost use Rattle.demangle_cell_trees.specs.Steps.{word_in};
+ghost use Rattle.demangle_cell_trees.specs.Steps.{Offers, Turns, is_leaf_word, next_of, part_says};
+ghost use Rattle.demangle_cell_trees.specs.Steps.{size, step_in, word_in};
 ghost use Rattle.demangle_cell_trees.specs.declared.roles.Sought.{Sought};
 
 use crate::cells::cell_at;
