@@ -224,20 +224,7 @@ fn answer(alloc: Global, row: &str, asked: &Asked) -> Result<String, AllocError>
     }
 }
 
-fn main(rt: HostRuntime) -> io::Result<()> {
-    for line in rt.lines(rt.alloc()) {
-        let line = line?;
-        let mut parts = line.as_str().split(' ');
-        let (Some(row), Some(levels), Some(flag)) = (parts.next(), parts.next(), parts.next()) else {
-            continue;
-        };
-        let asked = asked(rt.alloc(), levels, flag, parts.next().unwrap_or(""))?;
-        let text = answer(rt.alloc(), row, &asked)?;
-        println!(rt; "{text}")?;
-    }
-    Ok(())
-}
-"""
+""" + row_answers.MAIN
 
 
 # ---- the program

@@ -22,6 +22,22 @@ SHOWN = 20  # how many wrong answers are printed
 WIDTHS = ("SignedBitIntExpression", "UnsignedBitIntExpression")
 IMPLS = re.compile(r"impl Parse for (\w+)")
 
+# asks each line of the input: the program that asks has its own `asked` and `answer`
+MAIN = """fn main(rt: HostRuntime) -> io::Result<()> {
+    for line in rt.lines(rt.alloc()) {
+        let line = line?;
+        let mut parts = line.as_str().split(' ');
+        let (Some(row), Some(limit), Some(flag)) = (parts.next(), parts.next(), parts.next()) else {
+            continue;
+        };
+        let asked = asked(rt.alloc(), limit, flag, parts.next().unwrap_or(""))?;
+        let text = answer(rt.alloc(), row, &asked)?;
+        println!(rt; "{text}")?;
+    }
+    Ok(())
+}
+"""
+
 PROGRAM = """//! Reads rows: a line of input is a row, a limit on levels, the conversion flag and the bytes.
 #![tactic(auto)]
 
@@ -72,20 +88,7 @@ ARMS
     }
 }
 
-fn main(rt: HostRuntime) -> io::Result<()> {
-    for line in rt.lines(rt.alloc()) {
-        let line = line?;
-        let mut parts = line.as_str().split(' ');
-        let (Some(row), Some(limit), Some(flag)) = (parts.next(), parts.next(), parts.next()) else {
-            continue;
-        };
-        let asked = asked(rt.alloc(), limit, flag, parts.next().unwrap_or(""))?;
-        let text = answer(rt.alloc(), row, &asked)?;
-        println!(rt; "{text}")?;
-    }
-    Ok(())
-}
-"""
+""" + MAIN
 
 
 # ---- the program
