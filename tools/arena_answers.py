@@ -27,7 +27,7 @@ TOKENS = re.compile(r"\w+\(|\)|\w+(?::-?\w+)*")
 PROGRAM = """//! Reads rows into an arena: a line of input is a row, levels, the conversion flag and the bytes.
 #![tactic(auto)]
 
-use demangle_cells::{Arena, Cell, Depth, Part, Tag, Text};
+use demangle_cells::{Arena, Depth, Part, Plain, Tag, Text};
 use demangle_read::Reader;
 use demangle_read_below::Below;
 use std::alloc::{AllocError, Global};
@@ -64,53 +64,28 @@ fn parts(open: &mut Vec<Item>, ids: &[u32]) -> Result<(), AllocError> {
     Ok(())
 }
 
-fn qualifiers(alloc: Global, out: &mut String, r: bool, v: bool, c: bool) -> Result<(), AllocError> {
-    let (r, v, c) = (r as u8, v as u8, c as u8);
-    out.push_str(format!(in alloc; "CvQualifiers( flag:{r} flag:{v} flag:{c} ) ")?.as_str())
-}
-
-fn leaf(alloc: Global, out: &mut String, cell: Cell) -> Result<(), AllocError> {
+fn leaf(alloc: Global, out: &mut String, cell: Plain) -> Result<(), AllocError> {
     match cell {
-        Cell::Empty(tag) => {
+        Plain::Empty(tag) => {
             begin(alloc, out, tag)?;
             out.push_str(") ")
         }
-        Cell::EmptyList(tag) => {
-            begin(alloc, out, tag)?;
-            out.push_str("Several( ) ) ")
-        }
-        Cell::Text(tag, start, stop) => {
-            begin(alloc, out, tag)?;
-            out.push_str(format!(in alloc; "place:{start}:{stop} ) ")?.as_str())
-        }
-        Cell::Count(tag, count) => {
-            begin(alloc, out, tag)?;
-            out.push_str(format!(in alloc; "number:{count} ) ")?.as_str())
-        }
-        Cell::Named(tag, table, word) => {
-            begin(alloc, out, tag)?;
-            out.push_str(format!(in alloc; "chosen:{table}:{word} ) ")?.as_str())
-        }
-        Cell::Place(start, stop) => {
+        Plain::Place(start, stop) => {
             out.push_str(format!(in alloc; "place:{start}:{stop} ")?.as_str())
         }
-        Cell::Number(value) => {
+        Plain::Number(value) => {
             let size = value.unsigned_abs();
             let sign = if value < 0 { "-" } else { "" };
             out.push_str(format!(in alloc; "number:{sign}{size} ")?.as_str())
         }
-        Cell::Word(table, word) => out.push_str(format!(in alloc; "chosen:{table}:{word} ")?.as_str()),
-        Cell::Flag(set) => {
+        Plain::Counted(value) => out.push_str(format!(in alloc; "number:{value} ")?.as_str()),
+        Plain::Word(table, word) => out.push_str(format!(in alloc; "chosen:{table}:{word} ")?.as_str()),
+        Plain::Flag(set) => {
             let set = set as u8;
             out.push_str(format!(in alloc; "flag:{set} ")?.as_str())
         }
-        Cell::Qualifiers(r, v, c) => qualifiers(alloc, out, r, v, c),
-        Cell::Builtin(word) => {
-            let text = format!(in alloc; "TypeHandleBuiltin( BuiltinTypeStandard( chosen:1:{word} ) ) ")?;
-            out.push_str(text.as_str())
-        }
-        Cell::Reference(k) => out.push_str(format!(in alloc; "BackReference( ref:N:{k} ) ")?.as_str()),
-        Cell::Other(k) => out.push_str(format!(in alloc; "NonSubstitution( ref:U:{k} ) ")?.as_str()),
+        Plain::Reference(k) => out.push_str(format!(in alloc; "BackReference( ref:N:{k} ) ")?.as_str()),
+        Plain::Other(k) => out.push_str(format!(in alloc; "NonSubstitution( ref:U:{k} ) ")?.as_str()),
         _ => Ok(()),
     }
 }
@@ -127,26 +102,25 @@ fn one(
         None => return out.push_str("nocell "),
     };
     match cell {
-        Cell::One(tag, a) => {
+        Plain::One(tag, a) => {
             begin(alloc, out, tag)?;
             parts(open, &[a])
         }
-        Cell::Two(tag, a, b) => {
+        Plain::Two(tag, a, b) => {
             begin(alloc, out, tag)?;
             parts(open, &[a, b])
         }
-        Cell::Three(tag, a, b, c) => {
+        Plain::Three(tag, a, b, c) => {
             begin(alloc, out, tag)?;
             parts(open, &[a, b, c])
         }
-        Cell::Many(tag, start, count) => {
+        Plain::Many(tag, start, count) => {
             begin(alloc, out, tag)?;
             parts(open, arena.indexes(start, count))
         }
-        Cell::Arguments(at, start, count) => {
-            out.push_str(format!(in alloc; "TemplateArgs( mark:{at} Several( ")?.as_str())?;
-            open.push(Item::Close)?;
-            parts(open, arena.indexes(start, count))
+        Plain::Arguments(at, members) => {
+            out.push_str(format!(in alloc; "TemplateArgs( mark:{at} ")?.as_str())?;
+            parts(open, &[members])
         }
         _ => leaf(alloc, out, cell),
     }

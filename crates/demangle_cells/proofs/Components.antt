@@ -1,20 +1,15 @@
 -- Components: how many there are, and the references to them.
-use Rattle.std.proofs.Common.{◌≡◌, refl, ap, ◌∙◌, sym, ℕ, suc, zero, ◌≤◌, ◌<◌, ◌+◌, ◌-◌, Bool, true, false, List, []}
+use Rattle.std.proofs.Common.{◌≡◌, refl, ap, ◌∙◌, sym, ℕ, suc, zero, ◌<◌, ◌+◌, ◌-◌, Bool, true, false, List, []}
 use Rattle.std.proofs.Common.{◌∷◌, ◌++◌}
-use Rattle.std.proofs.Common.{length, take, map, arith, nat_lt, if◌then◌else◌, option_map, slice_get, get_or, Some}
-use Rattle.std.proofs.Common.{None}
-use Rattle.demangle_core.specs.Core.{Core, N, U, Which}
-use Rattle.demangle_core.specs.Table.{Table, size, added, count, count_if, listed, entry_at}
+use Rattle.std.proofs.Common.{length, take, map, arith, nat_lt, option_map, slice_get}
+use Rattle.demangle_core.specs.Core.{Core, N, U}
+use Rattle.demangle_core.specs.Table.{size, added, count, listed, entry_at}
 use Rattle.demangle_grammar.specs.Tree.{reference}
 use Rattle.demangle_cells.specs.Fixed.{fixed, first_cell, first_reference, first_other}
 use Rattle.demangle_cells.specs.Entries.{ids_of, more_if, same_kind}
 use Rattle.demangle_cells.specs.View.{View, Holds, table, entry, which_of}
 use Rattle.demangle_cells.specs.declared.entry.Entry as made
-use Rattle.demangle_cells.proofs.Lists.{map_last, got_is, none_is}
-
-append_none : {A : Type 0} (xs : List A) → xs ++ [] ≡ xs
-append_none [] = refl
-append_none (x ∷ xs) = ap (λ l. x ∷ l) (append_none xs)
+use Rattle.demangle_cells.proofs.Lists.{map_last, append_none}
 
 pub ids_last : (b : Bool) (es : List made.Entry) (e : made.Entry)
     → ids_of b (es ++ e ∷ []) ≡ ids_of b es ++ more_if (same_kind b e.numbered) e.id []
@@ -163,23 +158,15 @@ component_tree F b v ns n e =
     ap (λ l. option_map F (slice_get l n)) e
     ∙ (mapped_get F (ids_of b v.entries) n ∙ sym (ap (λ l. slice_get l n) (listed_are F b v.entries)))
 
-pub numbered_tree : (F : ℕ → Core) (v : View) (ns : List ℕ) (n k : ℕ) → ns ≡ ids_of true v.entries → n < length ns
-    → k ≡ get_or ns n k → Some (F k) ≡ entry_at N n (table F v)
-numbered_tree F v ns n k e h g = ap (option_map F) (sym (got_is n k ns h g)) ∙ component_tree F true v ns n e
+pub numbered_tree : (F : ℕ → Core) (v : View) (ns : List ℕ) (n : ℕ) → ns ≡ ids_of true v.entries
+    → option_map F (slice_get ns n) ≡ entry_at N n (table F v)
+numbered_tree F v ns n e = component_tree F true v ns n e
 
-pub no_numbered : (F : ℕ → Core) (v : View) (ns : List ℕ) (n : ℕ) → ns ≡ ids_of true v.entries → length ns ≤ n
-    → None ≡ entry_at N n (table F v)
-no_numbered F v ns n e h = ap (option_map F) (sym (none_is n ns h)) ∙ component_tree F true v ns n e
-
-pub other_tree : (F : ℕ → Core) (v : View) (ns : List ℕ) (n k : ℕ) → ns ≡ ids_of false v.entries → n < length ns
-    → k ≡ get_or ns n k → Some (F k) ≡ entry_at U n (table F v)
-other_tree F v ns n k e h g = ap (option_map F) (sym (got_is n k ns h g)) ∙ component_tree F false v ns n e
-
-pub no_other : (F : ℕ → Core) (v : View) (ns : List ℕ) (n : ℕ) → ns ≡ ids_of false v.entries → length ns ≤ n
-    → None ≡ entry_at U n (table F v)
-no_other F v ns n e h = ap (option_map F) (sym (none_is n ns h)) ∙ component_tree F false v ns n e
+pub other_tree : (F : ℕ → Core) (v : View) (ns : List ℕ) (n : ℕ) → ns ≡ ids_of false v.entries
+    → option_map F (slice_get ns n) ≡ entry_at U n (table F v)
+other_tree F v ns n e = component_tree F false v ns n e
 
 pub ruleset parts =
     (numbered_more, numbered_same, others_more, others_same, has_of_size, added_numbered, added_other, numbered_reference, other_reference)
 
-pub ruleset by_number = (numbered_tree, no_numbered, other_tree, no_other)
+pub ruleset by_number = (numbered_tree, other_tree)

@@ -1,17 +1,16 @@
 -- Arenas that grow: what readers use, and what the functions here use.
-use Rattle.std.proofs.Common.{◌≡◌, refl, ap, ◌∙◌, sym, subst, ℕ, suc, zero, ◌≤◌, ◌<◌, ◌+◌, Bool, true, false, List, []}
+use Rattle.std.proofs.Common.{◌≡◌, refl, ap, ◌∙◌, sym, subst, ℕ, ◌+◌, true, false, []}
 use Rattle.std.proofs.Common.{◌∷◌, ◌++◌}
-use Rattle.std.proofs.Common.{length, take, map, arith}
+use Rattle.std.proofs.Common.{length, take, map}
 use Rattle.demangle_core.specs.Core.{Core}
-use Rattle.demangle_core.specs.Table.{Table}
 use Rattle.demangle_cells.specs.Fixed.{first_cell}
-use Rattle.demangle_cells.specs.Cells.{tree, holds_from}
+use Rattle.demangle_cells.specs.Cells.{plain_tree, holds_from}
 use Rattle.demangle_cells.specs.Entries.{ids_of}
 use Rattle.demangle_cells.specs.View.{View, Holds, table, entry, Grown, KeepsTrees, IsMark, FitsMark, IsCut}
-use Rattle.demangle_cells.specs.declared.cell.Cell.{Cell}
+use Rattle.demangle_cells.specs.declared.plain.Plain.{Plain}
 use Rattle.demangle_cells.specs.declared.entry.Entry as made
 use Rattle.demangle_cells.specs.declared.entry.Mark as mark
-use Rattle.demangle_cells.proofs.Lists.{take_all, take_front, take_less, map_last}
+use Rattle.demangle_cells.proofs.Lists.{take_all, take_front, take_less}
 use Rattle.demangle_cells.proofs.Trees.{front, last}
 
 -- ---- what readers use
@@ -59,7 +58,7 @@ cut_grown a b d m i g k = record {
 }
 
 -- ---- a cell more
-pub cell_grown : (a b : View) (c : Cell) → b.cells ≡ a.cells ++ c ∷ [] → b.list ≡ a.list → b.entries ≡ a.entries
+pub cell_grown : (a b : View) (c : Plain) → b.cells ≡ a.cells ++ c ∷ [] → b.list ≡ a.list → b.entries ≡ a.entries
     → b.waiting ≡ a.waiting → Grown a b
 cell_grown a b c e l t w = record {
   holds = λ F h. record {
@@ -74,8 +73,8 @@ cell_grown a b c e l t w = record {
   waiting = w;
 }
 
-pub cell_made : (F : ℕ → Core) (a b : View) (c : Cell) (i : ℕ) → b.cells ≡ a.cells ++ c ∷ []
-    → i ≡ first_cell + length a.cells → Holds F b → F i ≡ tree F b.list c
+pub cell_made : (F : ℕ → Core) (a b : View) (c : Plain) (i : ℕ) → b.cells ≡ a.cells ++ c ∷ []
+    → i ≡ first_cell + length a.cells → Holds F b → F i ≡ plain_tree F b.list c
 cell_made F a b c i e k h = ap F k
     ∙ last F b.list first_cell a.cells c (subst (λ cs. holds_from F b.list first_cell cs) e h.cells)
 

@@ -1,4 +1,5 @@
 pub mod Lists
+pub mod Held
 pub mod Trees
 pub mod Grows
 pub mod Waits

@@ -1,6 +1,6 @@
 -- Lists that grow at their end, and are cut there.
-use Rattle.std.proofs.Common.{◌≡◌, refl, ap, ◌∙◌, sym, ℕ, suc, zero, ◌≤◌, ◌+◌, List, [], ◌∷◌, ◌++◌, length, take, drop}
-use Rattle.std.proofs.Common.{map, arith, ◌-◌, ◌<◌, get_or, slice_get, Some, None}
+use Rattle.std.proofs.Common.{◌≡◌, refl, ap, ◌∙◌, ℕ, suc, zero, ◌≤◌, ◌+◌, List, [], ◌∷◌, ◌++◌, length, take, drop}
+use Rattle.std.proofs.Common.{map, arith, ◌-◌, length-drop}
 
 pub take_all : {A : Type 0} (xs : List A) → take (length xs) xs ≡ xs
 take_all [] = refl
@@ -9,6 +9,10 @@ take_all (x ∷ xs) = ap (λ l. x ∷ l) (take_all xs)
 pub take_front : {A : Type 0} (xs ys : List A) → take (length xs) (xs ++ ys) ≡ xs
 take_front [] ys = refl
 take_front (x ∷ xs) ys = ap (λ l. x ∷ l) (take_front xs ys)
+
+pub append_none : {A : Type 0} (xs : List A) → xs ++ [] ≡ xs
+append_none [] = refl
+append_none (x ∷ xs) = ap (λ l. x ∷ l) (append_none xs)
 
 -- what was taken of what was taken
 pub take_less : {A : Type 0} (xs ys zs : List A) → take (length xs) ys ≡ xs → take (length ys) zs ≡ ys
@@ -59,13 +63,11 @@ rest_taken (suc n) (suc m) (x ∷ xs) h =
     let e : suc m - suc n ≡ m - n = omega arith in
     ap (λ k. take k (drop n xs)) e ∙ rest_taken n m xs (omega (arith, h))
 
--- an element by its place
-pub got_is : {A : Type 0} (k : ℕ) (x : A) (xs : List A) → k < length xs → x ≡ get_or xs k x → slice_get xs k ≡ Some x
-got_is k x [] h e = absurd (omega arith)
-got_is zero x (y ∷ xs) h e = ap Some (sym e)
-got_is (suc k) x (y ∷ xs) h e = got_is k x xs (omega arith) e
-
-pub none_is : {A : Type 0} (k : ℕ) (xs : List A) → length xs ≤ k → slice_get xs k ≡ None
-none_is k [] h = refl
-none_is zero (x ∷ xs) h = absurd (omega arith)
-none_is (suc k) (x ∷ xs) h = none_is k xs (omega arith)
+-- how many they are, by the length of a list that is the same
+pub rest_length : {A : Type 0} (n m : ℕ) (xs ys : List A) → m ≡ length ys → xs ≡ ys
+    → m - n ≡ length (take (length xs - n) (drop n xs))
+rest_length n m xs ys h e =
+    let l : length (take (length xs - n) (drop n xs)) ≡ length (drop n xs) = ap length (rest_taken n _ xs refl) in
+    let d : length (drop n xs) ≡ length xs - n = length-drop n xs in
+    let x : length xs ≡ length ys = ap length e in
+    omega (arith, l, d, x, h)

@@ -1,18 +1,17 @@
 -- Indexes that wait, and lists that are made of them.
-use Rattle.std.proofs.Common.{◌≡◌, refl, ap, ◌∙◌, sym, subst, ℕ, suc, zero, ◌≤◌, ◌<◌, ◌+◌, ◌-◌, Bool, true, false, ◌&&◌}
+use Rattle.std.proofs.Common.{◌≡◌, refl, ap, ◌∙◌, subst, ℕ, suc, zero, ◌≤◌, ◌<◌, ◌+◌, ◌-◌, ◌^◌, true, ◌&&◌}
 use Rattle.std.proofs.Common.{List, [], ◌∷◌, ◌++◌, length, take, drop, map, arith, nat_le}
-use Rattle.demangle_core.specs.Core as core
-use Rattle.demangle_core.specs.Core.{Core, node, mark, end}
-use Rattle.demangle_grammar.specs.Code.{joined}
+use Rattle.std.specs.Prelude.{Result, Ok, Err, OnOk, OnErr}
+use Rattle.demangle_core.specs.Core.{Core, node, end}
 use Rattle.demangle_cells.specs.Tags.{tag_of}
 use Rattle.demangle_cells.specs.Fixed.{first_cell}
-use Rattle.demangle_cells.specs.Cells.{tree, row, span, list_tree, holds_from}
+use Rattle.demangle_cells.specs.Cells.{plain_tree, row, span, holds_from}
 use Rattle.demangle_cells.specs.Behind.{all_known, is_behind, all_behind}
 use Rattle.demangle_cells.specs.View.{View, Holds, table, entry, Grown, Waited, since, KeepsTrees, IsMark, IsCut}
-use Rattle.demangle_cells.specs.declared.cell.Cell.{Cell}
-use Rattle.demangle_cells.specs.declared.cell.ListOf.{ListOf}
+use Rattle.demangle_cells.specs.declared.plain.Plain.{Plain}
+use Rattle.demangle_cells.specs.declared.tag.Tag.{Tag}
 use Rattle.demangle_cells.specs.declared.entry.Mark as mark
-use Rattle.demangle_cells.specs.declared.cell.Cell.TheVariants as of_cell
+use Rattle.demangle_cells.specs.declared.plain.Plain.TheVariants as of_plain
 use Rattle.demangle_cells.proofs.Lists.{span_before, take_all, take_front, take_less}
 use Rattle.demangle_cells.proofs.Grows.{cut_holds}
 use Rattle.demangle_cells.proofs.Trees.{front, last}
@@ -43,18 +42,14 @@ longer : {A : Type 0} (start count : ℕ) (xs ys : List A) → start + count ≤
 longer start count xs ys h = let e = append_length xs ys in grind (arith, e, h)
 
 -- the cells say the same where the list has grown
-tree_before : (F : ℕ → Core) (n : ℕ) (l xs : List ℕ) (c : Cell) → is_behind n l c ≡ true
-    → tree F (l ++ xs) c ≡ tree F l c
-tree_before F n l xs (of_cell.Many t start count) h =
+tree_before : (F : ℕ → Core) (n : ℕ) (l xs : List ℕ) (c : Plain) → is_behind n l c ≡ true
+    → plain_tree F (l ++ xs) c ≡ plain_tree F l c
+tree_before F n l xs (of_plain.Many t start count) h =
     let b : start + count ≤ length l = grind (arith, h) in
     ap (λ ids. node (tag_of t) (row F ids) end) (span_before start count l xs b)
-tree_before F n l xs (of_cell.Arguments at start count) h =
-    let b : start + count ≤ length l = grind (arith, h) in
-    ap (λ ids. node core.Tag.TemplateArgs (mark at (node core.Tag.Several (row F ids) end)) end)
-    (span_before start count l xs b)
 tree_before F n l xs _ h = refl
 
-pub holds_shorter : (F : ℕ → Core) (n : ℕ) (l xs : List ℕ) (cs : List Cell) → all_behind n l cs ≡ true
+pub holds_shorter : (F : ℕ → Core) (n : ℕ) (l xs : List ℕ) (cs : List Plain) → all_behind n l cs ≡ true
     → holds_from F (l ++ xs) n cs → holds_from F l n cs
 holds_shorter F n l xs [] b h = tt
 holds_shorter F n l xs (c ∷ cs) b h =
@@ -62,26 +57,21 @@ holds_shorter F n l xs (c ∷ cs) b h =
     let e : all_behind (n + 1) l cs ≡ true = grind (arith, b) in
     (h.0 ∙ tree_before F n l xs c d, holds_shorter F (n + 1) l xs cs e h.1)
 
-known_before : (n : ℕ) (l xs : List ℕ) (c : Cell) → is_behind n l c ≡ true → is_behind n (l ++ xs) c ≡ true
-known_before n l xs (of_cell.Many t start count) h =
+known_before : (n : ℕ) (l xs : List ℕ) (c : Plain) → is_behind n l c ≡ true → is_behind n (l ++ xs) c ≡ true
+known_before n l xs (of_plain.Many t start count) h =
     let b : start + count ≤ length l = grind (arith, h) in
     let k : all_known n (span l start count) ≡ true = grind (arith, h) in
     let m : all_known n (span (l ++ xs) start count) ≡ true = ap (all_known n) (span_before start count l xs b) ∙ k in
     let g : nat_le (start + count) (length (l ++ xs)) ≡ true = longer start count l xs b in
     rw (g, m) refl
-known_before n l xs (of_cell.Arguments at start count) h =
-    let b : start + count ≤ length l = grind (arith, h) in
-    let k : all_known n (span l start count) ≡ true = grind (arith, h) in
-    let m : all_known n (span (l ++ xs) start count) ≡ true = ap (all_known n) (span_before start count l xs b) ∙ k in
-    let g : nat_le (start + count) (length (l ++ xs)) ≡ true = longer start count l xs b in
-    rw (g, m) refl
-known_before n l xs (of_cell.Empty t) h = h
-known_before n l xs (of_cell.One t a) h = h
-known_before n l xs (of_cell.Two t a b) h = h
-known_before n l xs (of_cell.Three t a b c) h = h
+known_before n l xs (of_plain.Arguments at a) h = h
+known_before n l xs (of_plain.Empty t) h = h
+known_before n l xs (of_plain.One t a) h = h
+known_before n l xs (of_plain.Two t a b) h = h
+known_before n l xs (of_plain.Three t a b c) h = h
 known_before n l xs _ h = refl
 
-pub behind_before : (n : ℕ) (l xs : List ℕ) (cs : List Cell) → all_behind n l cs ≡ true
+pub behind_before : (n : ℕ) (l xs : List ℕ) (cs : List Plain) → all_behind n l cs ≡ true
     → all_behind n (l ++ xs) cs ≡ true
 behind_before n l xs [] h = refl
 behind_before n l xs (c ∷ cs) h =
@@ -92,7 +82,7 @@ behind_before n l xs (c ∷ cs) h =
     rw (f, g) refl
 
 -- ---- a cell of a list
-pub list_kept : (a b : View) (c : Cell) (xs : List ℕ) → b.cells ≡ a.cells ++ c ∷ [] → b.list ≡ a.list ++ xs
+pub list_kept : (a b : View) (c : Plain) (xs : List ℕ) → b.cells ≡ a.cells ++ c ∷ [] → b.list ≡ a.list ++ xs
     → b.entries ≡ a.entries → all_behind first_cell a.list a.cells ≡ true → KeepsTrees a b
 list_kept a b c xs e l t k = record {
   holds = λ F h. record {
@@ -121,15 +111,15 @@ list_longer a b xs e l t k = record {
   entries = t;
 }
 
-pub list_made : (F : ℕ → Core) (a b : View) (of : ListOf) (c : Cell) (xs : List ℕ) (i start count : ℕ)
-    → b.cells ≡ a.cells ++ c ∷ [] → b.list ≡ a.list ++ xs → start ≡ length a.list → count ≡ length xs
-    → i ≡ first_cell + length a.cells
-    → ((F : ℕ → Core) (list : List ℕ) → tree F list c ≡ list_tree of (row F (span list start count)))
-    → Holds F b → F i ≡ list_tree of (row F xs)
-list_made F a b of c xs i start count e l s n k t h =
-    ap F k ∙ (last F b.list first_cell a.cells c (subst (λ cs. holds_from F b.list first_cell cs) e h.cells)
-    ∙ (t F b.list ∙ ap (λ ids. list_tree of (row F ids))
-    (ap (λ l. span l start count) l ∙ span_added a.list xs start count s n)))
+pub list_made : (F : ℕ → Core) (a b : View) (t : Tag) (xs : List ℕ) (i start count : ℕ)
+    → b.cells ≡ a.cells ++ of_plain.Many t start count ∷ [] → b.list ≡ a.list ++ xs → start ≡ length a.list
+    → count ≡ length xs → i ≡ first_cell + length a.cells
+    → Holds F b → F i ≡ node (tag_of t) (row F xs) end
+list_made F a b t xs i start count e l s n k h =
+    ap F k ∙ (last F b.list first_cell a.cells (of_plain.Many t start count)
+    (subst (λ cs. holds_from F b.list first_cell cs) e h.cells)
+    ∙ ap (λ ids. node (tag_of t) (row F ids) end)
+    (ap (λ l. span l start count) l ∙ span_added a.list xs start count s n))
 
 -- the parts of such a cell are known
 pub list_behind : (n : ℕ) (l xs : List ℕ) (start count : ℕ) → start ≡ length l → count ≡ length xs
@@ -140,6 +130,40 @@ list_behind n l xs start count s c k =
     let g : nat_le (start + count) (length (l ++ xs)) ≡ true = grind (arith, e, s, c) in
     let m : all_known n (span (l ++ xs) start count) ≡ true = ap (all_known n) (span_added l xs start count s c) ∙ k in
     rw (g, m) refl
+
+pub many_behind : (n : ℕ) (l m xs : List ℕ) (t : Tag) (start count : ℕ) → m ≡ l ++ xs → start ≡ length l
+    → count ≡ length xs → all_known n xs ≡ true → is_behind n m (of_plain.Many t start count) ≡ true
+many_behind n l m xs t start count e s c k =
+    ap (λ m. is_behind n m (of_plain.Many t start count)) e ∙ list_behind n l xs start count s c k
+
+-- all cells have their parts where indexes were added
+pub all_longer : (l m xs : List ℕ) (cs : List Plain) → all_behind first_cell l cs ≡ true → m ≡ l ++ xs
+    → all_behind first_cell m cs ≡ true
+all_longer l m xs cs b e = ap (λ m. all_behind first_cell m cs) e ∙ behind_before first_cell l xs cs b
+
+pub short_more : (l m xs : List ℕ) (start count : ℕ) → start ≡ length l → count ≡ length xs → m ≡ l ++ xs
+    → start < 2 ^ 32 → count < 2 ^ 32 - start → length m < 2 ^ 32
+short_more l m xs start count s c e r h =
+    let a = append_length l xs in
+    let n : length m ≡ length (l ++ xs) = ap length e in
+    omega (arith, a, n, s, c, r, h)
+
+-- behind a try to add them
+pub list_after : {A E : Type 0} (r : Result A E) (l m xs : List ℕ) (cs : List Plain) (start count : ℕ)
+    → OnOk r (m ≡ l ++ xs) → OnErr r (m ≡ l) → start ≡ length l → count ≡ length xs → start < 2 ^ 32
+    → count < 2 ^ 32 - start → all_behind first_cell l cs ≡ true
+    → (length m < 2 ^ 32) × (all_behind first_cell m cs ≡ true)
+list_after (Ok x) l m xs cs start count o e s c r h b =
+    (short_more l m xs start count s c o r h, all_longer l m xs cs b o)
+list_after (Err x) l m xs cs start count o e s c r h b =
+    let n : length m ≡ length l = ap length e in
+    (omega (arith, n, s, r), ap (λ m. all_behind first_cell m cs) e ∙ b)
+
+-- ---- a list of template arguments over the node of its members
+pub kept_grown : (a b c : View) → KeepsTrees a b → Grown b c → c.entries ≡ b.entries → KeepsTrees a c
+kept_grown a b c k g e = record { holds = λ F h. k.holds F (g.holds F h); entries = e ∙ k.entries }
+
+pub ruleset nodes = (kept_grown)
 
 drop_all : {A : Type 0} (xs : List A) → drop (length xs) xs ≡ []
 drop_all [] = refl
@@ -231,5 +255,3 @@ pub since_same : (a b c : View) → Grown b c → since a c ≡ since a b
 since_same a b c g = ap (drop (length a.waiting)) g.waiting
 
 pub ruleset gathers = (waited_self, waited_on, waited_grown, gathered_grown, gathered_table, waited_fits)
-
-pub ruleset lists = (behind_before, list_kept, list_longer, list_made, list_behind)

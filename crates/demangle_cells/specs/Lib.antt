@@ -3,6 +3,7 @@ pub mod Fixed
 pub mod Cells
 pub mod Behind
 pub mod Entries
+pub mod Held
 pub mod View
 pub mod Model
 pub mod Reads

@@ -1,13 +1,12 @@
 -- What a reader of a row answers: `old` and `new` are the arena before and behind it, and F says what each index stands
 -- for. A refusal is the row's, and leaves the components as they were; want of memory says nothing.
-use Rattle.std.specs.Prelude.{◌≡◌, ◌⊎◌, ℕ, Bool, true, false, List, [], ◌∷◌, drop, Result, Ok, Err}
+use Rattle.std.specs.Prelude.{◌≡◌, ◌⊎◌, ℕ, Bool, true, false, [], ◌∷◌, drop, Result, Ok, Err}
 use Rattle.demangle_text.specs.Kind.{kind, ends}
 use Rattle.demangle_text.specs.Spot.{Spot}
 use Rattle.demangle_text.specs.declared.error.Error.{Error}
 use Rattle.demangle_text.specs.declared.error.Error.TheVariants.{OutOfMemory}
 use Rattle.demangle_core.specs.Core as core
 use Rattle.demangle_core.specs.Core.{Core, Tag, node}
-use Rattle.demangle_core.specs.Table.{Table}
 use Rattle.demangle_grammar.specs.Rule.{Row}
 use Rattle.demangle_grammar.specs.Code.{here, Here, Reply, Found, Refused, Out, Yes, No, cread}
 use Rattle.demangle_cells.specs.Cells.{row}

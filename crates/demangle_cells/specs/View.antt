@@ -1,25 +1,25 @@
 -- What contracts see of an arena: its cells, its list of indexes, the components of the name that is read, and the
 -- indexes that wait to become a list.
 use Rattle.std.specs.Prelude.{◌≡◌, ℕ, ◌<◌, ◌≤◌, Bool, true, false, List, map, take, drop, length}
-use Rattle.demangle_text.specs.Spot.{Spot}
 use Rattle.demangle_core.specs.Core.{Core, Which, N, U}
 use Rattle.demangle_core.specs.Table.{Entry, Table}
 use Rattle.demangle_cells.specs.Fixed.{fixed, first_cell, first_reference}
 use Rattle.demangle_cells.specs.Cells.{holds_from}
 use Rattle.demangle_cells.specs.Entries.{ids_of}
-use Rattle.demangle_cells.specs.declared.cell.Cell.{Cell}
+use Rattle.demangle_cells.specs.Held.{held}
+use Rattle.demangle_cells.specs.declared.plain.Plain.{Plain}
 use Rattle.demangle_cells.specs.declared.arena.Arena.{Arena}
 use Rattle.demangle_cells.specs.declared.entry.Entry as made
 use Rattle.demangle_cells.specs.declared.entry.Mark as mark
 
 pub record View : Type 0 where
-  pub cells : List Cell
+  pub cells : List Plain
   pub list : List ℕ
   pub entries : List made.Entry
   pub waiting : List ℕ
 
 unfoldable pub view : Arena → View
-view a = record { cells = a.cells.items; list = a.list.items; entries = a.entries.items; waiting = a.waiting.items }
+view a = record { cells = held a.cells; list = held a.list; entries = held a.entries; waiting = held a.waiting }
 
 -- F says what each index stands for: those of the cells, and those that are the same everywhere.
 pub record Holds (F : ℕ → Core) (v : View) : Type 0 where

@@ -5,16 +5,21 @@ ghost use Rattle.std.specs.Prelude.{OnErr, OnOk, IfSome};
 ghost use Rattle.demangle_cells.specs.Fixed.{first_cell, first_reference};
 ghost use Rattle.demangle_cells.specs.Behind.{all_behind};
 ghost use Rattle.demangle_cells.specs.Entries.{ids_of};
+ghost use Rattle.demangle_cells.specs.Held.{held};
 
 use crate::cell::{Cell, ListOf};
-use crate::constant_cells::constant_cell;
+use crate::constant_cells::beside_cells;
+use crate::constants::empty_id;
 use crate::entry::{Entry, Mark};
+use crate::plain::Plain;
+use crate::room::Room;
+use crate::tag::Tag;
 use crate::text::Part;
 use demangle_text::{Error, Result};
 use std::alloc::Global;
 
 /// The index of the first cell; those below are constant trees.
-pub const FIRST_CELL: u32 = 2048;
+pub const FIRST_CELL: u32 = 2304;
 
 /// The index of the reference to the first numbered component.
 pub const FIRST_REFERENCE: u32 = 1 << 30;
@@ -26,30 +31,32 @@ pub const FIRST_OTHER: u32 = 1 << 31;
 /// indexes that wait to become a list.
 #[derive(Drop)]
 pub struct Arena {
-    cells: Vec<Cell>,
-    list: Vec<u32>,
-    entries: Vec<Entry>,
-    numbered: Vec<u32>,
-    others: Vec<u32>,
-    waiting: Vec<u32>,
-    ghost few: { first_cell + length cells.items ≤ first_reference },
-    ghost short: { length list.items < 2 ^ 32 },
-    ghost behind: { all_behind first_cell list.items cells.items ≡ true },
-    ghost those_numbered: { numbered.items ≡ ids_of true entries.items },
-    ghost the_others: { others.items ≡ ids_of false entries.items },
+    cells: Room<Plain>,
+    list: Room<u32>,
+    entries: Room<Entry>,
+    numbered: Room<u32>,
+    others: Room<u32>,
+    waiting: Room<u32>,
+    ghost few: { first_cell + length (held cells) ≤ first_reference },
+    ghost short: { length (held list) < 2 ^ 32 },
+    ghost behind: { all_behind first_cell (held list) (held cells) ≡ true },
+    ghost those_numbered: { held numbered ≡ ids_of true (held entries) },
+    ghost the_others: { held others ≡ ids_of false (held entries) },
 }
 
 impl Arena {
     ghost use Rattle.demangle_text.specs.declared.error.Error.TheVariants.{OutOfMemory};
-    ghost use Rattle.demangle_core.specs.Core.{Core, N, U};
+    ghost use Rattle.demangle_core.specs.Core.{Core, N, U, end, node, number, place};
     ghost use Rattle.demangle_core.specs.Table.{added, entry_at, size};
-    ghost use Rattle.demangle_cells.specs.Behind.{is_known, is_behind, all_known};
+    ghost use Rattle.demangle_cells.specs.Behind.{is_known, is_kept, is_behind, all_known};
     ghost use Rattle.demangle_cells.specs.Reads.{Gathers};
-    ghost use Rattle.std.specs.Prelude.{◌++◌, nat_lt, MatchOption, option_map};
+    ghost use Rattle.std.specs.Prelude.{◌++◌, false, nat_lt, pos, List, MatchOption, option_map};
     ghost use Rattle.demangle_grammar.specs.Tree.{reference};
     ghost use Rattle.demangle_cells.specs.View.{view, Holds, table, Grown, IsMark, FitsMark, IsCut, KeepsTrees};
     ghost use Rattle.demangle_cells.specs.View.{which_of};
-    ghost use Rattle.demangle_cells.specs.Cells.{tree, row, list_tree, span};
+    ghost use Rattle.demangle_cells.specs.Tags.{tag_of};
+    ghost use Rattle.demangle_cells.specs.Fixed.{absent};
+    ghost use Rattle.demangle_cells.specs.Cells.{tree, plain_tree, row, list_tree, span};
 
     /// An arena without cells. It takes no memory.
     #[tactic(auto, unfolding(crate::specs::View::view))]
@@ -59,12 +66,12 @@ impl Arena {
         ensures waiting { (view result).waiting ≡ [] }
     {
         Arena {
-            cells: Vec::new(alloc),
-            list: Vec::new(alloc),
-            entries: Vec::new(alloc),
-            numbered: Vec::new(alloc),
-            others: Vec::new(alloc),
-            waiting: Vec::new(alloc),
+            cells: Room::new(alloc),
+            list: Room::new(alloc),
+            entries: Room::new(alloc),
+            numbered: Room::new(alloc),
+            others: Room::new(alloc),
+            waiting: Room::new(alloc),
         }
     }
 
@@ -75,52 +82,56 @@ impl Arena {
         ensures entries { (view self.new).entries ≡ [] }
         ensures waiting { (view self.new).waiting ≡ [] }
     {
-        self.cells.clear();
-        self.list.clear();
-        self.entries.clear();
-        self.numbered.clear();
-        self.others.clear();
-        self.waiting.clear();
+        self.cells.truncate(0);
+        self.list.truncate(0);
+        self.entries.truncate(0);
+        self.numbered.truncate(0);
+        self.others.truncate(0);
+        self.waiting.truncate(0);
     }
 
     /// The index of the next cell.
     #[tactic(auto, unfolding(crate::specs::View::view))]
     fn next(&self) -> u32
-        ensures { result ≡ first_cell + length self.now.cells.items }
+        ensures { result ≡ first_cell + length (held self.now.cells) }
     {
         FIRST_CELL + self.cells.len() as u32
     }
 
     /// Whether it is the index of a cell or of a constant tree.
+    #[inline(always)]
     #[tactic(auto, unfolding(crate::specs::View::view))]
     fn knows(&self, id: u32) -> bool
-        ensures { result ≡ is_known (first_cell + length self.now.cells.items) id }
+        ensures { result ≡ is_known (first_cell + length (held self.now.cells)) id }
     {
         id < self.next() || id >= FIRST_REFERENCE
     }
 
     /// Whether the parts of a cell are known.
+    #[inline(always)]
     #[tactic(auto, unfolding(crate::specs::View::view))]
-    fn has_parts(&self, cell: Cell) -> bool
-        ensures { result ≡ true → is_behind (first_cell + length self.now.cells.items) self.now.list.items cell ≡ true }
+    fn has_parts(&self, cell: Plain) -> bool
+        ensures { result ≡ true
+            → is_behind (first_cell + length (held self.now.cells)) (held self.now.list) cell ≡ true }
     {
         match cell {
-            Cell::One(_, a) => self.knows(a),
-            Cell::Two(_, a, b) => self.knows(a) && self.knows(b),
-            Cell::Three(_, a, b, c) => self.knows(a) && self.knows(b) && self.knows(c),
-            Cell::Many(_, _, _) | Cell::Arguments(_, _, _) => false,
+            Plain::One(_, a) | Plain::Arguments(_, a) => self.knows(a),
+            Plain::Two(_, a, b) => self.knows(a) && self.knows(b),
+            Plain::Three(_, a, b, c) => self.knows(a) && self.knows(b) && self.knows(c),
+            Plain::Many(_, _, _) => false,
             _ => true,
         }
     }
 
     /// One cell more, and its index. Where the parts are no known indexes, or there are 2^30 cells, it is
     /// `OutOfMemory`.
-    #[tactic(auto, using(crate::proofs::Grows::pushes, crate::proofs::Trees::behind_last), unfolding(crate::specs::View::view))]
-    pub fn push(&mut self, cell: Cell) -> Result<u32>
+    #[inline(always)]
+    #[tactic(auto, using(crate::proofs::Grows::pushes), unfolding(crate::specs::View::view))]
+    fn keep(&mut self, cell: Plain) -> Result<u32>
         ensures grown { Grown (view self.old) (view self.new) }
-        ensures table { (F : ℕ → Core) → table F (view self.new) ≡ table F (view self.old) }
+        ensures entries { (view self.new).entries ≡ (view self.old).entries }
         ensures made { IfOk result (λ i. (F : ℕ → Core) → Holds F (view self.new)
-            → F i ≡ tree F (view self.new).list cell) }
+            → F i ≡ plain_tree F (view self.new).list cell) }
         ensures refused { IfErr result (λ e. e ≡ OutOfMemory) }
     {
         if self.next() >= FIRST_REFERENCE || !self.has_parts(cell) {
@@ -129,6 +140,59 @@ impl Arena {
         let id = self.next();
         self.cells.push(cell)?;
         Ok(id)
+    }
+
+    /// A node that is a place in the input alone, and its index.
+    #[inline(always)]
+    #[tactic(auto, using(crate::proofs::Grows::grows))]
+    fn keep_text(&mut self, tag: Tag, start: u32, stop: u32) -> Result<u32>
+        ensures grown { Grown (view self.old) (view self.new) }
+        ensures entries { (view self.new).entries ≡ (view self.old).entries }
+        ensures made { IfOk result (λ i. (F : ℕ → Core) → Holds F (view self.new)
+            → F i ≡ node (tag_of tag) (place start stop end) end) }
+        ensures refused { IfErr result (λ e. e ≡ OutOfMemory) }
+    {
+        let part = self.keep(Plain::Place(start, stop))?;
+        self.keep(Plain::One(tag, part))
+    }
+
+    /// A node that is a number alone, and its index.
+    #[inline(always)]
+    #[tactic(auto, using(crate::proofs::Grows::grows))]
+    fn keep_count(&mut self, tag: Tag, value: usize) -> Result<u32>
+        ensures grown { Grown (view self.old) (view self.new) }
+        ensures entries { (view self.new).entries ≡ (view self.old).entries }
+        ensures made { IfOk result (λ i. (F : ℕ → Core) → Holds F (view self.new)
+            → F i ≡ node (tag_of tag) (number (pos value) end) end) }
+        ensures refused { IfErr result (λ e. e ≡ OutOfMemory) }
+    {
+        let part = self.keep(Plain::Counted(value))?;
+        self.keep(Plain::One(tag, part))
+    }
+
+    /// One tree more, and its index. Where the parts are no known indexes, or there are 2^30 cells, it is
+    /// `OutOfMemory`.
+    #[inline(always)]
+    #[tactic(auto, using(crate::proofs::Grows::pushes))]
+    pub fn push(&mut self, cell: Cell) -> Result<u32>
+        ensures grown { Grown (view self.old) (view self.new) }
+        ensures table { (F : ℕ → Core) → table F (view self.new) ≡ table F (view self.old) }
+        ensures made { IfOk result (λ i. (F : ℕ → Core) → Holds F (view self.new)
+            → F i ≡ tree F (view self.new).list cell) }
+        ensures refused { IfErr result (λ e. e ≡ OutOfMemory) }
+    {
+        match cell {
+            Cell::Empty(tag) => self.keep(Plain::Empty(tag)),
+            Cell::One(tag, a) => self.keep(Plain::One(tag, a)),
+            Cell::Two(tag, a, b) => self.keep(Plain::Two(tag, a, b)),
+            Cell::Three(tag, a, b, c) => self.keep(Plain::Three(tag, a, b, c)),
+            Cell::Text(tag, start, stop) => self.keep_text(tag, start, stop),
+            Cell::Count(tag, number) => self.keep_count(tag, number),
+            Cell::Place(start, stop) => self.keep(Plain::Place(start, stop)),
+            Cell::Number(number) => self.keep(Plain::Number(number)),
+            Cell::Counted(number) => self.keep(Plain::Counted(number)),
+            Cell::EmptyList(tag) => self.keep(Plain::One(tag, empty_id())),
+        }
     }
 
     /// One component more, and the index of the reference to it.
@@ -162,11 +226,12 @@ impl Arena {
         if number >= FIRST_REFERENCE as usize {
             return Err(Error::OutOfMemory);
         }
+        let count = self.entries.len();
         self.entries.push(Entry { numbered: true, id })?;
         match self.numbered.push(id) {
             Ok(()) => Ok(FIRST_REFERENCE + number as u32),
             Err(_) => {
-                self.entries.pop();
+                self.entries.truncate(count);
                 Err(Error::OutOfMemory)
             }
         }
@@ -186,6 +251,7 @@ impl Arena {
         if number >= FIRST_REFERENCE as usize {
             return Err(Error::OutOfMemory);
         }
+        let count = self.entries.len();
         self.entries.push(Entry {
             numbered: false,
             id,
@@ -193,7 +259,7 @@ impl Arena {
         match self.others.push(id) {
             Ok(()) => Ok(FIRST_OTHER + number as u32),
             Err(_) => {
-                self.entries.pop();
+                self.entries.truncate(count);
                 Err(Error::OutOfMemory)
             }
         }
@@ -250,24 +316,51 @@ impl Arena {
         Ok(())
     }
 
-    /// The cell of an index: none exactly where there is no such cell and it is no constant's.
-    #[tactic(auto, using(crate::proofs::Blocks::cells), unfolding(crate::specs::View::view))]
-    pub fn cell(&self, id: u32) -> Option<Cell>
-        ensures { MatchOption result (is_known (first_cell + length (view self.now).cells) id ≡ false)
-            (λ c. (F : ℕ → Core) → Holds F (view self.now) → F id ≡ tree F (view self.now).list c) }
+    /// The cell of an index; none exactly where no cell has it.
+    #[inline(always)]
+    #[tactic(auto, unfolding(crate::specs::View::view))]
+    pub fn kept(&self, id: u32) -> Option<Plain>
+        ensures cell { MatchOption result (is_kept (length (view self.now).cells) id ≡ false)
+            (λ c. (F : ℕ → Core) → Holds F (view self.now) → F id ≡ plain_tree F (view self.now).list c) }
+        ensures found { IfSome result (λ c. is_kept (length (view self.now).cells) id ≡ true) }
+        ensures lower { IfSome result (λ c. is_behind id (view self.now).list c ≡ true) }
     {
-        if id < FIRST_CELL {
-            return Some(constant_cell(id));
+        self.cells.get(id.wrapping_sub(FIRST_CELL) as usize)
+    }
+
+    /// What an index is, one step deep. Where there is no such cell and it is no constant's, it is a part that is not
+    /// there.
+    #[inline(always)]
+    #[tactic(auto, using(crate::proofs::Blocks::beside), unfolding(crate::specs::View::view))]
+    pub fn plain(&self, id: u32) -> Plain
+        ensures cell { is_known (first_cell + length (view self.now).cells) id ≡ true
+            → (F : ℕ → Core) → Holds F (view self.now) → F id ≡ plain_tree F (view self.now).list result }
+        ensures none { is_known (first_cell + length (view self.now).cells) id ≡ false
+            → (F : ℕ → Core) (list : List ℕ) → plain_tree F list result ≡ absent }
+        ensures lower { is_behind id (view self.now).list result ≡ true }
+    {
+        match self.kept(id) {
+            Some(cell) => cell,
+            None => {
+                // (a value of its own: so what is read of a cell doesn't pass through memory)
+                let beside = beside_cells(id);
+                beside
+            }
         }
-        if id >= FIRST_OTHER {
-            return Some(Cell::Other(id - FIRST_OTHER));
-        }
-        if id >= FIRST_REFERENCE {
-            return Some(Cell::Reference(id - FIRST_REFERENCE));
-        }
-        match self.cells.get((id - FIRST_CELL) as usize) {
-            Some(cell) => Some(*cell),
-            None => None,
+    }
+
+    /// The same, but none exactly where there is no such cell and it is no constant's.
+    #[inline(always)]
+    #[tactic(auto, unfolding(crate::specs::View::view))]
+    pub fn cell(&self, id: u32) -> Option<Plain>
+        ensures cell { MatchOption result (is_known (first_cell + length (view self.now).cells) id ≡ false)
+            (λ c. (F : ℕ → Core) → Holds F (view self.now) → F id ≡ plain_tree F (view self.now).list c) }
+        ensures lower { IfSome result (λ c. is_behind id (view self.now).list c ≡ true) }
+    {
+        if self.knows(id) {
+            Some(self.plain(id))
+        } else {
+            None
         }
     }
 
@@ -276,7 +369,7 @@ impl Arena {
     pub fn indexes(&self, start: u32, count: u32) -> &[u32]
         ensures { result.now ≡ span (view self.now).list start count }
     {
-        let rest = match self.list.get(start as usize..) {
+        let rest = match self.list.items().get(start as usize..) {
             Some(rest) => rest,
             None => return &[],
         };
@@ -287,30 +380,26 @@ impl Arena {
     }
 
     /// The tree of a numbered component; none exactly where there is none.
+    #[inline(always)]
     #[tactic(auto, using(crate::proofs::Components::by_number), unfolding(crate::specs::View::view))]
     pub fn numbered(&self, number: u32) -> Option<u32>
         ensures { (F : ℕ → Core) → option_map F result ≡ entry_at N number (table F (view self.now)) }
     {
-        match self.numbered.get(number as usize) {
-            Some(id) => Some(*id),
-            None => None,
-        }
+        self.numbered.get(number as usize)
     }
 
     /// The tree of another component; none exactly where there is none.
+    #[inline(always)]
     #[tactic(auto, using(crate::proofs::Components::by_number), unfolding(crate::specs::View::view))]
     pub fn other(&self, number: u32) -> Option<u32>
         ensures { (F : ℕ → Core) → option_map F result ≡ entry_at U number (table F (view self.now)) }
     {
-        match self.others.get(number as usize) {
-            Some(id) => Some(*id),
-            None => None,
-        }
+        self.others.get(number as usize)
     }
 
     /// Whether all are known.
     fn knows_all(&self, ids: &[u32]) -> bool
-        ensures { result ≡ true → all_known (first_cell + length self.now.cells.items) ids.now ≡ true }
+        ensures { result ≡ true → all_known (first_cell + length (held self.now.cells)) ids.now ≡ true }
     {
         let mut rest = ids;
         while let [id, next @ ..] = rest {
@@ -322,8 +411,33 @@ impl Arena {
         true
     }
 
-    /// A cell of the indexes that wait, from a place on.
-    #[tactic(auto, using(crate::proofs::Trees::behind_last, crate::proofs::Waits::lists), unfolding(crate::specs::View::view))]
+    /// A node of the indexes that wait, from a place on.
+    #[tactic(auto, using(crate::proofs::Grows::pushes), unfolding(crate::specs::View::view))]
+    fn keep_many(&mut self, from: usize, tag: Tag) -> Result<u32>
+        requires { from ≤ length (view self.old).waiting }
+        ensures kept { KeepsTrees (view self.old) (view self.new) }
+        ensures waiting { (view self.new).waiting ≡ (view self.old).waiting }
+        ensures made { IfOk result (λ i. (F : ℕ → Core) → Holds F (view self.new)
+            → F i ≡ node (tag_of tag) (row F (drop from (view self.old).waiting)) end) }
+        ensures refused { IfErr result (λ e. e ≡ OutOfMemory) }
+    {
+        let start = self.list.len();
+        let count = self.waiting.len() - from;
+        if self.next() >= FIRST_REFERENCE || count >= (1 << 32) - start {
+            return Err(Error::OutOfMemory);
+        }
+        if !self.knows_all(&self.waiting.items()[from..]) {
+            return Err(Error::OutOfMemory);
+        }
+        self.list.extend(&self.waiting.items()[from..])?;
+        let id = self.next();
+        let cell = Plain::Many(tag, start as u32, count as u32);
+        self.cells.push(cell)?;
+        Ok(id)
+    }
+
+    /// What becomes of the indexes that wait, from a place on.
+    #[tactic(auto, using(crate::proofs::Grows::grows, crate::proofs::Waits::nodes))]
     fn listed(&mut self, from: usize, list: ListOf) -> Result<u32>
         requires { from ≤ length (view self.old).waiting }
         ensures kept { KeepsTrees (view self.old) (view self.new) }
@@ -332,19 +446,13 @@ impl Arena {
             → F i ≡ list_tree list (row F (drop from (view self.old).waiting))) }
         ensures refused { IfErr result (λ e. e ≡ OutOfMemory) }
     {
-        let start = self.list.len();
-        let count = self.waiting.len() - from;
-        if self.next() >= FIRST_REFERENCE || start + count >= 1 << 32 {
-            return Err(Error::OutOfMemory);
+        match list {
+            ListOf::Node(tag) => self.keep_many(from, tag),
+            ListOf::Arguments(at) => {
+                let members = self.keep_many(from, Tag::Several)?;
+                self.keep(Plain::Arguments(at, members))
+            }
         }
-        if !self.knows_all(&self.waiting[from..]) {
-            return Err(Error::OutOfMemory);
-        }
-        self.list.extend_from_slice(&self.waiting[from..])?;
-        let id = self.next();
-        let cell = list.cell(start as u32, count as u32);
-        self.cells.push(cell)?;
-        Ok(id)
     }
 
     /// The list of the indexes that wait, from a place on, where it was read; they wait no more.

@@ -50,7 +50,7 @@ pub fn word_id(table: WordTable, word: u8) -> u32
 pub fn builtin_id(word: u8) -> u32
     ensures { (F : ℕ → Core) (v : View) → Holds F v → F result ≡ builtin_tree word }
 {
-    1280 + word as u32
+    2048 + word as u32
 }
 
 /// The index of the name of an operator that is a word, by the number of the word.
@@ -70,14 +70,14 @@ pub fn qualifiers_id(restrict: bool, volatile: bool, is_const: bool) -> u32
         → F result ≡ node Tag.CvQualifiers (flag restrict (flag volatile (flag is_const end))) end }
 {
     match (restrict, volatile, is_const) {
-        (false, false, false) => 1536,
-        (false, false, true) => 1537,
-        (false, true, false) => 1538,
-        (false, true, true) => 1539,
-        (true, false, false) => 1540,
-        (true, false, true) => 1541,
-        (true, true, false) => 1542,
-        (true, true, true) => 1543,
+        (false, false, false) => 1544,
+        (false, false, true) => 1545,
+        (false, true, false) => 1546,
+        (false, true, true) => 1547,
+        (true, false, false) => 1548,
+        (true, false, true) => 1549,
+        (true, true, false) => 1550,
+        (true, true, true) => 1551,
     }
 }
 
@@ -87,7 +87,7 @@ pub fn qualifiers_id(restrict: bool, volatile: bool, is_const: bool) -> u32
 pub fn flag_id(set: bool) -> u32
     ensures { (F : ℕ → Core) (v : View) → Holds F v → F result ≡ flag set end }
 {
-    if set { 1545 } else { 1544 }
+    if set { 1537 } else { 1536 }
 }
 
 /// The index of a part that is not there.
@@ -96,7 +96,7 @@ pub fn flag_id(set: bool) -> u32
 pub fn absent_id() -> u32
     ensures { (F : ℕ → Core) (v : View) → Holds F v → F result ≡ node Tag.Absent end end }
 {
-    1546
+    1538
 }
 
 /// The index of the number 0.
@@ -105,7 +105,7 @@ pub fn absent_id() -> u32
 pub fn nought_id() -> u32
     ensures { (F : ℕ → Core) (v : View) → Holds F v → F result ≡ number (pos 0) end }
 {
-    1547
+    1539
 }
 
 /// The index of an empty list.
@@ -114,7 +114,7 @@ pub fn nought_id() -> u32
 pub fn empty_id() -> u32
     ensures { (F : ℕ → Core) (v : View) → Holds F v → F result ≡ node Tag.Several end end }
 {
-    1548
+    1540
 }
 
 /// The index of no tags.
@@ -123,7 +123,7 @@ pub fn empty_id() -> u32
 pub fn no_tags_id() -> u32
     ensures { (F : ℕ → Core) (v : View) → Holds F v → F result ≡ node Tag.AbiTags (node Tag.Several end end) end }
 {
-    1549
+    1541
 }
 
 /// The index of an optional ref-qualifier that is there, by the number of its word.

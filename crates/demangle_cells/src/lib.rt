@@ -8,6 +8,8 @@ mod constants;
 mod depth;
 mod entry;
 mod laws;
+mod plain;
+mod room;
 mod tag;
 mod text;
 
@@ -20,5 +22,6 @@ pub use constants::{
 pub use depth::{Depth, passed};
 pub use entry::{Entry, Mark};
 pub use laws::each_arena_has_a_model;
+pub use plain::Plain;
 pub use tag::Tag;
 pub use text::{Part, Text};

@@ -8,7 +8,7 @@ ghost use Rattle.demangle_read_names.specs.Temporaries.{ReadsNumber};
 
 use demangle_cells::{Arena, Cell, Depth, Text};
 use demangle_read_rows::unsigned;
-use demangle_text::{Error, Result};
+use demangle_text::Result;
 
 /// A number in base 36, and where the text goes on, ABI section 5.1.10, <seq-id>.
 #[tactic(auto, unfolding(demangle_grammar::specs::Code::cread, demangle_grammar::specs::Rows::rule))]
@@ -29,8 +29,5 @@ pub fn add_number(arena: &mut Arena, before: usize) -> Result<u32>
         → F i ≡ number (pos (before + 1)) end) }
     ensures refused { IfErr result (λ e. e ≡ OutOfMemory) }
 {
-    if before == isize::MAX as usize {
-        return Err(Error::OutOfMemory);
-    }
-    arena.push(Cell::Number((before + 1) as isize))
+    arena.push(Cell::Counted(before + 1))
 }

@@ -6,7 +6,7 @@ ghost use Rattle.demangle_cells.specs.View.{view, Grown, table};
 ghost use Rattle.demangle_read_nested.specs.Members.{MakesDataMember, MakesMember};
 
 use crate::shapes::is_node;
-use demangle_cells::{Arena, Cell, Tag};
+use demangle_cells::{Arena, Cell, Plain, Tag};
 use demangle_text::{Error, Result};
 
 /// The name of a data member of this name behind the prefix, without the name's tags. `UnexpectedText` where the
@@ -22,18 +22,18 @@ pub fn member_prefix(arena: &mut Arena, prefix: u32, name: u32) -> Result<u32>
     }
     match arena.cell(name) {
         Some(
-            Cell::Two(Tag::UnqualifiedNameSource, source, _)
-            | Cell::Three(Tag::UnqualifiedNameLocalSourceName, source, _, _),
+            Plain::Two(Tag::UnqualifiedNameSource, source, _)
+            | Plain::Three(Tag::UnqualifiedNameLocalSourceName, source, _, _),
         ) => data_member(arena, source),
         Some(
-            Cell::Two(
+            Plain::Two(
                 Tag::UnqualifiedNameOperator
                 | Tag::UnqualifiedNameCtorDtor
                 | Tag::UnqualifiedNameClosureType,
                 _,
                 _,
             )
-            | Cell::One(Tag::UnqualifiedNameUnnamedType, _),
+            | Plain::One(Tag::UnqualifiedNameUnnamedType, _),
         ) => Err(Error::UnexpectedText),
         _ => Err(Error::OutOfMemory),
     }

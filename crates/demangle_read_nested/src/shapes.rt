@@ -4,12 +4,12 @@ ghost use Rattle.std.specs.Prelude.{◌≡◌, ℕ, List, true, IfErr, IfOk};
 ghost use Rattle.demangle_text.specs.declared.error.Error.TheVariants.{OutOfMemory};
 ghost use Rattle.demangle_core.specs.Core.{Core, node};
 ghost use Rattle.demangle_grammar.specs.Reading.{is_numbered};
-ghost use Rattle.demangle_cells.specs.Cells.{tree};
+ghost use Rattle.demangle_cells.specs.Cells.{plain_tree};
 ghost use Rattle.demangle_cells.specs.Tags.{tag_of};
 ghost use Rattle.demangle_cells.specs.View.{view, Holds};
 ghost use Rattle.demangle_read_nested.specs.Shapes.{is_node};
 
-use demangle_cells::{Arena, Cell, Tag};
+use demangle_cells::{Arena, Plain, Tag};
 use demangle_text::{Error, Result};
 
 /// Whether the tree is certainly a node.
@@ -23,11 +23,15 @@ pub fn is_node(arena: &Arena, id: u32) -> bool
 }
 
 /// Whether the cell is a node.
-fn is_node_cell(cell: Cell) -> bool
-    ensures { (F : ℕ → Core) (list : List ℕ) → result ≡ is_node (tree F list cell) }
+fn is_node_cell(cell: Plain) -> bool
+    ensures { (F : ℕ → Core) (list : List ℕ) → result ≡ is_node (plain_tree F list cell) }
 {
     match cell {
-        Cell::Place(_, _) | Cell::Number(_) | Cell::Word(_, _) | Cell::Flag(_) => false,
+        Plain::Place(_, _)
+        | Plain::Number(_)
+        | Plain::Counted(_)
+        | Plain::Word(_, _)
+        | Plain::Flag(_) => false,
         _ => true,
     }
 }
@@ -45,20 +49,16 @@ pub fn is_numbered(arena: &Arena, prefix: u32) -> Result<bool>
 }
 
 /// Whether the cell is a well-known or a numbered component.
-fn is_numbered_cell(cell: Cell) -> bool
-    ensures { (F : ℕ → Core) (list : List ℕ) → result ≡ is_numbered (tree F list cell) }
+fn is_numbered_cell(cell: Plain) -> bool
+    ensures { (F : ℕ → Core) (list : List ℕ) → result ≡ is_numbered (plain_tree F list cell) }
 {
     match cell {
-        Cell::Reference(_) => true,
-        Cell::Named(tag, _, _)
-        | Cell::Empty(tag)
-        | Cell::One(tag, _)
-        | Cell::Two(tag, _, _)
-        | Cell::Three(tag, _, _, _)
-        | Cell::Many(tag, _, _)
-        | Cell::Text(tag, _, _)
-        | Cell::Count(tag, _)
-        | Cell::EmptyList(tag) => is_numbered_tag(tag),
+        Plain::Reference(_) => true,
+        Plain::Empty(tag)
+        | Plain::One(tag, _)
+        | Plain::Two(tag, _, _)
+        | Plain::Three(tag, _, _, _)
+        | Plain::Many(tag, _, _) => is_numbered_tag(tag),
         _ => false,
     }
 }

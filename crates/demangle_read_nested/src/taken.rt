@@ -7,7 +7,7 @@ ghost use Rattle.demangle_cells.specs.View.{view, Holds};
 ghost use Rattle.demangle_read_nested.specs.Taken.{EndsAs, IsLast};
 
 use crate::shapes::is_node;
-use demangle_cells::{Arena, Cell, Tag as CellTag};
+use demangle_cells::{Arena, Plain, Tag as CellTag};
 use demangle_text::{Error, Result};
 
 /// With what a prefix ends.
@@ -28,9 +28,12 @@ pub fn last_of(arena: &Arena, prefix: u32) -> Result<Taken>
     ensures { IsLast prefix result (view arena.now) }
 {
     match arena.cell(prefix) {
-        Some(Cell::Reference(number)) => last_of_entry(arena, arena.numbered(number)),
-        Some(Cell::Other(number)) => last_of_entry(arena, arena.other(number)),
-        Some(Cell::Named(_, _, _)) => Ok(Taken::Nothing),
+        Some(Plain::Reference(number)) => last_of_entry(arena, arena.numbered(number)),
+        Some(Plain::Other(number)) => last_of_entry(arena, arena.other(number)),
+        Some(Plain::One(CellTag::WellKnown, word)) => match arena.cell(word) {
+            Some(Plain::Word(_, _)) => Ok(Taken::Nothing),
+            _ => Err(Error::OutOfMemory),
+        },
         _ => Err(Error::OutOfMemory),
     }
 }
@@ -43,9 +46,9 @@ fn last_of_entry(arena: &Arena, entry: Option<u32>) -> Result<Taken>
         return Ok(Taken::Nothing);
     };
     match arena.cell(entry) {
-        Some(Cell::One(CellTag::SubstitutablePrefix, prefix)) => last_of_prefix(arena, prefix),
+        Some(Plain::One(CellTag::SubstitutablePrefix, prefix)) => last_of_prefix(arena, prefix),
         Some(
-            Cell::One(
+            Plain::One(
                 CellTag::SubstitutableTypeNode
                 | CellTag::SubstitutableUnscopedTemplateName
                 | CellTag::SubstitutableTemplateTemplateParam
@@ -63,18 +66,18 @@ fn last_of_prefix(arena: &Arena, prefix: u32) -> Result<Taken>
     ensures { EndsAs (λ F. node Tag.SubstitutablePrefix (F prefix) end) result (view arena.now) }
 {
     match arena.cell(prefix) {
-        Some(Cell::One(CellTag::PrefixUnqualified, name)) => Ok(Taken::Name(name)),
-        Some(Cell::Two(CellTag::PrefixNested, scope, name)) => {
+        Some(Plain::One(CellTag::PrefixUnqualified, name)) => Ok(Taken::Name(name)),
+        Some(Plain::Two(CellTag::PrefixNested, scope, name)) => {
             if is_node(arena, scope) {
                 Ok(Taken::Scoped(scope, name))
             } else {
                 Err(Error::OutOfMemory)
             }
         }
-        Some(Cell::Two(CellTag::PrefixTemplate, _, _)) => Ok(Taken::Template),
+        Some(Plain::Two(CellTag::PrefixTemplate, _, _)) => Ok(Taken::Template),
         Some(
-            Cell::One(CellTag::PrefixTemplateParam | CellTag::PrefixDecltype, _)
-            | Cell::Two(CellTag::PrefixDataMember, _, _),
+            Plain::One(CellTag::PrefixTemplateParam | CellTag::PrefixDecltype, _)
+            | Plain::Two(CellTag::PrefixDataMember, _, _),
         ) => Ok(Taken::Nothing),
         _ => Err(Error::OutOfMemory),
     }

@@ -1,6 +1,6 @@
 //! What a reading answers, as one text.
 
-use demangle_cells::{Arena, Cell, Tag};
+use demangle_cells::{Arena, Plain, Tag};
 use demangle_read::{read_front, read_whole};
 use demangle_text::ParseOptions;
 use std::alloc::{AllocError, Global};
@@ -31,10 +31,10 @@ fn others(arena: &Arena) -> u32 {
 
 fn root(arena: &Arena, id: u32) -> &'static str {
     match arena.cell(id) {
-        Some(Cell::Two(Tag::MangledNameEncoding, _, _)) => "encoding",
-        Some(Cell::Two(Tag::MangledNameBlockInvoke, _, _)) => "block",
-        Some(Cell::One(Tag::MangledNameTopLevelType, _)) => "type",
-        Some(Cell::One(Tag::MangledNameGlobalCtorDtor, _)) => "global",
+        Some(Plain::Two(Tag::MangledNameEncoding, _, _)) => "encoding",
+        Some(Plain::Two(Tag::MangledNameBlockInvoke, _, _)) => "block",
+        Some(Plain::One(Tag::MangledNameTopLevelType, _)) => "type",
+        Some(Plain::One(Tag::MangledNameGlobalCtorDtor, _)) => "global",
         _ => "none",
     }
 }

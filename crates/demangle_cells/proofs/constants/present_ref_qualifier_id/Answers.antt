@@ -1,4 +1,3 @@
-use Rattle.std.proofs.Common.{arith}
 use Rattle.demangle_cells.proofs.Blocks.{present_is}
 use Rattle.demangle_cells.proofs.constants.present_ref_qualifier_id.Goals as goal
 

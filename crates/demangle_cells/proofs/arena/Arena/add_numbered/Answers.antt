@@ -1,4 +1,5 @@
 use Rattle.std.proofs.Common.{arith, rules}
+use Rattle.demangle_cells.specs.Held.{held}
 use Rattle.demangle_cells.specs.View.{view}
 use Rattle.demangle_cells.proofs.Components.{numbered_reference, numbered_more, others_same}
 use Rattle.demangle_cells.proofs.arena.Arena.add_numbered.Goals as goal
@@ -16,5 +17,5 @@ pub returns-in-Ok-clause-reference : goal.returns-in-Ok-clause-reference
 unfolding view
 returns-in-Ok-clause-reference c =
     λ F h. numbered_reference F
-    (view c.args.self.now) _ c.len-number.result c.args.self.now.numbered.items c.args.self.now.those_numbered
+    (view c.args.self.now) _ c.len-number.result (held c.args.self.now.numbered) c.args.self.now.those_numbered
     (search (rules, c.len-number.ensures)) (grind (arith, c.if-number.false)) h

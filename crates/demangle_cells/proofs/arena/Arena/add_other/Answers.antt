@@ -1,4 +1,5 @@
-use Rattle.std.proofs.Common.{arith, rules}
+use Rattle.std.proofs.Common.{rules}
+use Rattle.demangle_cells.specs.Held.{held}
 use Rattle.demangle_cells.specs.View.{view}
 use Rattle.demangle_cells.proofs.Components.{other_reference, numbered_same, others_more}
 use Rattle.demangle_cells.proofs.arena.Arena.add_other.Goals as goal
@@ -16,5 +17,5 @@ pub returns-in-Ok-clause-reference : goal.returns-in-Ok-clause-reference
 unfolding view
 returns-in-Ok-clause-reference c =
     λ F h. other_reference F
-    (view c.args.self.now) _ c.len-number.result c.args.self.now.others.items c.args.self.now.the_others
+    (view c.args.self.now) _ c.len-number.result (held c.args.self.now.others) c.args.self.now.the_others
     (search (rules, c.len-number.ensures)) h

@@ -1,12 +1,13 @@
 use Rattle.std.proofs.Common.{◌≡◌, ◌+◌, length}
 use Rattle.demangle_cells.specs.Fixed.{first_cell}
 use Rattle.demangle_cells.specs.Behind.{all_known}
+use Rattle.demangle_cells.specs.Held.{held}
 use Rattle.demangle_cells.proofs.arena.Arena.knows_all.Given as goal
 
 abbrev pub invariant-loop-rest : goal.invariant-loop-rest
 invariant-loop-rest l =
-    all_known (first_cell + length l.self.cells.items) l.rest
-    ≡ all_known (first_cell + length l.self.cells.items) l.fn.ids
+    all_known (first_cell + length (held l.self.cells)) l.rest
+    ≡ all_known (first_cell + length (held l.self.cells)) l.fn.ids
 
 abbrev pub decreases-loop-rest : goal.decreases-loop-rest
 decreases-loop-rest l = length l.rest
