@@ -7,6 +7,8 @@ import line_uses
 
 CRATE = "demangle_lines_nodes"
 A_BLOCK = 16
+# where the numbers of lines of a first part are divided
+PASSING = 100
 PAGES = "(page T.tree T.table W.seen ctx.old) (page T.tree T.table W.seen ctx.new)"
 SCOPE = "(lent_scope T.tree scope.entry)"
 PARAMETERS = ["below: B", "number: u8", "tree: T", "scope: Option<&Scope<'_, T>>", "ctx: &mut Context<'s, '_, T, S, W>"]
@@ -80,11 +82,14 @@ class Choice:
         """The function that chooses the block."""
         size, last = len(self.tags), self.count - 1
         arms = "".join("        %d => block_%d(below, number, tree, scope, ctx),\n" % (at, at) for at in range(last))
-        body = ("    if number >= %d {\n        return;\n    }\n    match number / %d {\n%s"
+        body = ("    if is_first_part(number) {\n        first_part(below, tree, scope, ctx);\n        return;\n    }\n"
+                "    if number >= %d {\n        return;\n    }\n    match number / %d {\n%s"
                 "        _ => block_%d(below, number, tree, scope, ctx),\n    }\n") % (size, A_BLOCK, arms, last)
         doc = "The line of a node whose tag has this number, its level entered."
-        code = line_code("pub fn", "line_by_tag", doc, ["requires { B.can below }"], body)
-        answers = [("returns-then-number-ge%d" % size, "no_tag c.args.number c.if-number-ge%d.true" % size)]
+        code = line_code("pub fn", "line_by_tag", doc, ["requires { B.can below }"], body, "#[inline(always)]")
+        answers = [("returns-then-is_first_part", "runs_as (c.is_first_part.ensures c.if-is_first_part.true) (record { "
+                    "meets = meets_block c.first_part.ensures meets_done })"),
+                   ("returns-then-number-ge%d" % size, "no_tag c.args.number c.if-number-ge%d.true" % size)]
         answers += [("returns-in-%d" % at, "c.block_%d.ensures" % at) for at in range(last)]
         met = "λ k. ((refl, tt), (c.requires, %s))"
         answers += [("block_%d-requires" % at, met % ("c.in-%d.is" % at)) for at in range(last)]
@@ -92,6 +97,22 @@ class Choice:
         answers.append(("block_%d-requires" % last, left))
         answers.append(("returns-in_default", "c.block_%d.ensures" % last))
         return code, answers
+
+    def passing(self):
+        """The functions that tell whether a line is that of the first part, and their answers."""
+        numbers = [at for at, tag in enumerate(self.tags) if self.data.steps.get("line " + tag) == self.first_part]
+        lower, upper = [at for at in numbers if at < PASSING], [at for at in numbers if at >= PASSING]
+        doc = "Whether the line of a node whose tag has this number is that of its first part."
+        code = passing_code("is_first_part", doc, (
+            "    if number < %d {\n        is_lower_first_part(number)\n    } else {\n"
+            "        is_upper_first_part(number)\n    }\n") % PASSING)
+        files, answers = [code], {}
+        for name, chosen in (("is_lower_first_part", lower), ("is_upper_first_part", upper)):
+            arms = "".join("        %d => true,\n" % at for at in chosen)
+            files.append(passing_code(name, "The same of some of the numbers.",
+                                      "    match number {\n%s        _ => false,\n    }\n" % arms))
+            answers[name] = [("returns-in-%d" % at, "λ _. ap (λ z. line_steps (tag_at z)) c.in-%d.is" % at) for at in chosen]
+        return "\n".join(files), answers
 
     def inside(self):
         """The function of what stands behind an item: its code, its answers, and what it calls."""
@@ -143,8 +164,11 @@ class Choice:
             files["proofs/%s/block_%d/Answers.antt" % (module, at)] = proof(module, "block_%d" % at, answers)
         code, answers = self.top()
         own = "".join("use crate::%s::block_%d;\n" % (module, at) for at, module in enumerate(modules))
-        files["src/nodes.rt"] = "//! The line of any node.\n\n%s%s%s\n%s" % (
-            USES.replace("◌≡◌, ◌/◌", "◌≡◌"), own, uses_of([]), code)
+        called, (passing, passed) = [("demangle_lines", "first_part")], self.passing()
+        files["src/nodes.rt"] = "//! The line of any node.\n\n%s%s%s\n%s\n%s" % (
+            NODES_USES, own, uses_of(called), passing, code)
+        for name, some in passed.items():
+            files["proofs/nodes/%s/Answers.antt" % name] = passing_proof(name, some)
         files["proofs/nodes/line_by_tag/Answers.antt"] = proof("nodes", "line_by_tag", answers)
         code, answers, called = self.inside()
         files["src/insides.rt"] = "//! What stands behind any item.\n\n%s%s\n%s" % (INSIDE_USES, uses_of(called), code)
@@ -156,6 +180,18 @@ class Choice:
         return files
 
 
+def passing_code(name, doc, body):
+    done = "ensures { result ≡ true → line_steps (tag_at number) ≡ Step.line (0 ∷ []) Step.done }"
+    return "/// %s\n#[inline(always)]\nfn %s(number: u8) -> bool\n    %s\n{\n%s}\n" % (doc, name, done, body)
+
+
+def passing_proof(name, answers):
+    text = PASSING_PROOF % name
+    for goal, term in answers:
+        text += "\npub %s : goal.%s\nunfolding tag_at line_steps\n%s c = %s\n" % (goal, goal, goal, term)
+    return text
+
+
 BESIDE = ["insides", "nodes", "trees"]
 ROOT = """//! The line of any node, chosen by the number of its tag, and what stands behind any item.
 #![tactic(auto)]
@@ -164,6 +200,20 @@ ROOT = """//! The line of any node, chosen by the number of its tag, and what st
 pub use insides::item_inside;
 pub use nodes::line_by_tag;
 pub use trees::{leaf_inside, tree_line};
+"""
+NODES_USES = """ghost use Rattle.std.specs.Prelude.{◌≡◌, ◌∷◌, [], true};
+ghost use Rattle.demangle_printing.specs.Lines.{line_steps};
+ghost use Rattle.demangle_printing.specs.Step.{Step};
+ghost use Rattle.demangle_context.specs.PageOf.{page};
+ghost use Rattle.demangle_lines.specs.Does.{Runs};
+ghost use Rattle.demangle_lines.specs.ScopeOf.{lent_scope};
+ghost use Rattle.demangle_lines_nodes.specs.Tags.{tag_at};
+
+"""
+PASSING_PROOF = """use Rattle.std.proofs.Common.{ap}
+use Rattle.demangle_printing.specs.Lines.{line_steps}
+use Rattle.demangle_lines_nodes.specs.Tags.{tag_at}
+use Rattle.demangle_lines_nodes.proofs.nodes.%s.Goals as goal
 """
 INSIDE_USES = """ghost use Rattle.demangle_meets.specs.Meets.{Inside};
 ghost use Rattle.demangle_context.specs.PageOf.{page};
@@ -228,9 +278,9 @@ def inside_proof(answers):
     return text
 
 
-def line_code(head, name, doc, clauses, body):
+def line_code(head, name, doc, clauses, body, hint=None):
     done = "Runs (B.at below) %s (T.tree tree) %s (line_steps (tag_at number))" % (PAGES, SCOPE)
-    return line_terms.function(head, name, doc, PARAMETERS, "", clauses + ["ensures { %s }" % done], body)
+    return line_terms.function(head, name, doc, PARAMETERS, "", clauses + ["ensures { %s }" % done], body, hint)
 
 
 def uses_of(called):

@@ -17,6 +17,8 @@ SORTS = {"as_prefix": "prefix", "as_type": "type"}
 PARTS = {("line", 0): "itself", ("line", 1): "part", ("line", 2): "inner_part", ("line", 3): "innermost_part",
          ("operand", 1): "operand", ("list", 1): "list", ("members", 1): "members", ("argument", 1): "argument",
          ("leaf_of", 2): "inner_leaf"}
+# parts of names often are names of an identifier alone
+NAMES = "demangle_lines_names"
 TEXTS = {("spelled", 0): "spelled_itself", ("spelled", 1): "spelled", ("spelled", 2): "inner_spelled",
          ("magnitude", 1): "magnitude"}
 ORDINALS = {1: "ordinal", 2: "inner_ordinal"}
@@ -231,6 +233,8 @@ class Body:
 
     def part_call(self, step, rest, indent, suffix):
         name = PARTS[step[0], len(step[1])]
+        if name == "part" and self.crate.whose == NAMES:
+            name = "name_part"
         return self.one_call(name, ["below", "tree", *path_of(step[1]), self.scope, "ctx"], "meets_block", rest, indent, suffix)
 
     do_line = do_operand = do_list = do_members = do_argument = do_leaf_of = part_call

@@ -128,8 +128,9 @@ def first_line(head, name):
     return ["%s %s<" % (head, name)] + ["    %s," % part for part in re.split(r", (?=[TSWB]:)", GENERICS[1:-1])] + [">("]
 
 
-def function(head, name, doc, parameters, result, clauses, body):
+def function(head, name, doc, parameters, result, clauses, body, hint=None):
     lines = ["/// " + line for line in wrapped(doc, "", 114).split("\n")]
+    lines += [hint] if hint else []
     lines += first_line(head, name)
     lines += ["    %s," % parameter for parameter in parameters]
     lines.append(")" + result)

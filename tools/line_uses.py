@@ -45,7 +45,7 @@ CALLS = {
     "demangle_lines": "Below Scope Tree argument close close_spaced count_of entry_of has_prefix_arguments "
     "has_type_arguments hold inner_leaf inner_ordinal inner_part inner_spelled innermost_part is_anonymous is_inner_word "
     "is_innermost_word is_negative is_qualified is_special is_there is_true is_word itself leaf list magnitude members "
-    "name need_leaf operand ordinal part part_at resource spelled spelled_itself spells suffix taken with_inner_these "
+    "name name_part need_leaf operand ordinal part part_at resource spelled spelled_itself spells suffix taken with_inner_these "
     "with_leaf_name with_prefix_arguments with_these with_type_arguments",
     "crate::arrays": "before_bounds",
     "crate::parameters": "parameters_behind",

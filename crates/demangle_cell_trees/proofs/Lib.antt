@@ -1,6 +1,10 @@
 pub mod AllEntries
 pub mod Hold
 pub mod Looks
+pub mod Numbers
 pub mod Past
+pub mod Printed
 pub mod Says
 pub mod Steps
+pub mod Ways
+pub mod AtOnce

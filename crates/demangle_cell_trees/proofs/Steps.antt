@@ -3,28 +3,24 @@ use Rattle.std.proofs.Common.{◌≡◌, refl, ap, ◌∙◌, sym, ℕ, suc, zer
 use Rattle.std.proofs.Common.{map, arith, Option, Some, None, IfSome, option_map}
 use Rattle.demangle_core.specs.Core as core
 use Rattle.demangle_core.specs.Core.{Core, end, node, place, number, flag, chosen, ref, mark}
-use Rattle.demangle_core.specs.Lookups.{Next, nothing, at, first_step, steps_of}
+use Rattle.demangle_core.specs.Lookups.{Next, answer, nothing, at, first_step, steps_of}
 use Rattle.demangle_core.specs.Lookups.{args_component, args_step, as_prefix, as_type}
 use Rattle.demangle_cells.specs.Tags.{tag_of}
 use Rattle.demangle_cells.specs.declared.tag.Tag.{Tag}
-use Rattle.demangle_cells.specs.Cells.{row, span}
-use Rattle.demangle_cells.specs.View.{view}
 use Rattle.demangle_cells.specs.declared.arena.Arena.{Arena}
-use Rattle.demangle_cells.specs.declared.cell.Cell.{Cell}
-use Rattle.demangle_cells.specs.declared.cell.Cell.TheVariants as of_cell
 use Rattle.demangle_printing.specs.World.{nth}
 use Rattle.demangle_printing.specs.Trees.{trees_of}
-use Rattle.demangle_cell_trees.specs.ArenaTrees.{members_in, members_of_cell, tree_at}
+use Rattle.demangle_cell_trees.specs.ArenaTrees.{tree_at}
 use Rattle.demangle_cell_trees.specs.Own.{is_single, parts_in}
 use Rattle.demangle_cell_trees.specs.Roles.{role_in, tag_in}
 use Rattle.demangle_cell_trees.specs.Steps.{node_of, word_of, step_in, component_in, or_nothing, choice_of, role_says}
 use Rattle.demangle_cell_trees.specs.Steps.{part_says, holds_it, if_holds, arguments_in, size}
 use Rattle.demangle_cell_trees.specs.Steps.{Offers}
+use Rattle.demangle_cell_trees.specs.declared.roles.Role.{Role}
 use Rattle.demangle_cell_trees.specs.declared.roles.Role.TheVariants as of_role
 use Rattle.demangle_cell_trees.specs.declared.roles.Sought.{Sought}
 use Rattle.demangle_cell_trees.specs.declared.roles.Sought.TheVariants as of_sought
-use Rattle.demangle_cell_trees.proofs.Hold.{Told, told}
-use Rattle.demangle_cell_trees.proofs.Looks.{ended, single, nth_map, members_are}
+use Rattle.demangle_cell_trees.proofs.Looks.{ended, single, nth_map}
 use Rattle.demangle_cell_trees.proofs.Says.{says}
 
 -- ---- the steps of a row are those of its trees
@@ -106,43 +102,33 @@ module _ (s : Sought) (t : Tag) (x : Core) (g : is_single x ≡ true) (h : tag_i
   pub nothing_is : role_in s t ≡ of_role.Nothing → nothing ≡ step_in s x
   nothing_is r = sym (node_says s t x g h ∙ ap (λ z. role_says z x (map (step_in s) (parts_in x))) r)
 
-  pub part_is : (n : ℕ) (o : Option Core) → role_in s t ≡ of_role.Part n → o ≡ nth n (parts_in x)
-      → step_in s x ≡ part_says s o
-  part_is n o r e =
-      node_says s t x g h ∙ (ap (λ z. role_says z x (map (step_in s) (parts_in x))) r
-      ∙ (ap or_nothing (nth_map (step_in s) n (parts_in x)) ∙ ap (part_says s) (sym e)))
+  pub itself_is : role_in s t ≡ of_role.Itself → answer x ≡ step_in s x
+  itself_is r = sym (node_says s t x g h ∙ ap (λ z. role_says z x (map (step_in s) (parts_in x))) r)
 
-  pub choice_is : (n m : ℕ) (o p : Option Core) → role_in s t ≡ of_role.Choice n m → o ≡ nth n (parts_in x)
-      → p ≡ nth m (parts_in x) → Offers s x o p
-  choice_is n m o p r e f =
+  pub part_is : (r : Role) (n : ℕ) (o : Option Core) → role_in s t ≡ r
+      → ((steps : List (Next Core)) → role_says r x steps ≡ or_nothing (nth n steps)) → o ≡ nth n (parts_in x)
+      → step_in s x ≡ part_says s o
+  part_is r n o i says e =
+      node_says s t x g h ∙ (ap (λ z. role_says z x (map (step_in s) (parts_in x))) i
+      ∙ (says (map (step_in s) (parts_in x))
+      ∙ (ap or_nothing (nth_map (step_in s) n (parts_in x)) ∙ ap (part_says s) (sym e))))
+
+  pub choice_is : (r : Role) (n m : ℕ) (o p : Option Core) → role_in s t ≡ r
+      → ((steps : List (Next Core)) → role_says r x steps ≡ choice_of (nth n steps) (or_nothing (nth m steps)))
+      → o ≡ nth n (parts_in x) → p ≡ nth m (parts_in x) → Offers s x o p
+  choice_is r n m o p i says e f =
       record {
-        is = node_says s t x g h ∙ (ap (λ z. role_says z x (map (step_in s) (parts_in x))) r
+        is = node_says s t x g h ∙ (ap (λ z. role_says z x (map (step_in s) (parts_in x))) i
+            ∙ (says (map (step_in s) (parts_in x))
             ∙ (ap (λ z. choice_of z (or_nothing (nth m (map (step_in s) (parts_in x)))))
             (nth_map (step_in s) n (parts_in x))
             ∙ (ap (λ z. choice_of (option_map (step_in s) (nth n (parts_in x))) (or_nothing z))
             (nth_map (step_in s) m (parts_in x))
             ∙ (ap (λ z. choice_of (option_map (step_in s) z) (part_says s (nth m (parts_in x)))) (sym e)
-            ∙ ap (λ z. choice_of (option_map (step_in s) o) (part_says s z)) (sym f)))));
+            ∙ ap (λ z. choice_of (option_map (step_in s) o) (part_says s z)) (sym f))))));
         smaller = each_smaller n x o e;
         other = each_smaller m x p f;
       }
-
--- ---- what nothing is looked up in
-several_is : (s : Sought) (c : Core) → nothing ≡ step_in s (node core.Tag.Several c end)
-several_is of_sought.LeafName c = refl
-several_is of_sought.PrefixArguments c = refl
-several_is of_sought.TypeArguments c = refl
-several_is of_sought.Special c = refl
-
-members_step : (s : Sought) (F : ℕ → Core) (l : List ℕ) (c : Cell) → nothing ≡ step_in s (members_of_cell F l c)
-members_step s F l (of_cell.Arguments i start count) = several_is s (row F (span l start count))
-members_step s F l _ = refl
-
-pub members_have : (s : Sought) (a : Arena) (k : ℕ) → nothing ≡ step_in s (members_in (tree_at a k))
-members_have s a k =
-    let t : Told (tree_at a) (view a).list (tree_at a k) = told a k in
-    members_step s (tree_at a) (view a).list t.cell
-    ∙ ap (step_in s) (sym (members_are a k t.cell (record { is = t.is })))
 
 -- ---- arguments in a component
 pub tagged : (s : Sought) (x : Core) (t : Tag) → tag_in x ≡ Some (tag_of t)

@@ -28,3 +28,7 @@ held_code n =
     if n == 0 then of_holding.Optional else
     if n == 1 then of_holding.Nothing else
     if is_holder n then of_holding.Part else of_holding.Itself
+
+-- a tag whose node is printed itself; there are more
+abbrev pub is_plain : ℕ → Bool
+is_plain n = (nat_lt 3 n && nat_lt n 25) || (nat_lt 26 n && nat_lt n 205)

@@ -1,6 +1,6 @@
 -- What is looked up in trees.
-use Rattle.std.specs.Prelude.{◌≡◌, ℕ, suc, ◌+◌, ◌<◌, Bool, true, false, List, Option, Some, None, IfSome}
-use Rattle.std.specs.Prelude.{option_map, ◌==◌, ◌&&◌, nat_lt}
+use Rattle.std.specs.Prelude.{◌≡◌, ℕ, suc, ◌+◌, ◌-◌, ◌*◌, ◌/◌, ◌%◌, ◌<◌, ◌≤◌, Bool, true, false, List, Option, Some}
+use Rattle.std.specs.Prelude.{None, IfSome, option_map, ◌==◌, ◌&&◌, ◌||◌, nat_lt, if◌then◌else◌}
 use Rattle.demangle_core.specs.Core.{Core, Tag, end, node, place, number, flag, chosen, ref, mark, N, U}
 use Rattle.demangle_core.specs.Table.{Table}
 use Rattle.demangle_core.specs.Lookups.{Next, answer, nothing, at, else_next, first_step, leaf_node, leaf_word}
@@ -8,17 +8,13 @@ use Rattle.demangle_core.specs.Lookups.{args_node, special_node, no_word, steps_
 use Rattle.demangle_core.specs.Lookups.{special_step, settled, as_prefix, as_type}
 use Rattle.demangle_printing.specs.Trees.{trees_of}
 use Rattle.demangle_printing.specs.World.{nth}
-use Rattle.demangle_cells.specs.declared.cell.Cell.{Cell}
-use Rattle.demangle_cells.specs.declared.cell.Cell.TheVariants as of_cell
-use Rattle.demangle_cell_trees.specs.NodeTrees.{node_tree}
+use Rattle.demangle_cells.specs.declared.arena.Arena.{Arena}
+use Rattle.demangle_cell_trees.specs.ArenaTrees.{first_inside, tree_at}
+use Rattle.demangle_cell_trees.specs.Own.{has_plain, parts_in}
 use Rattle.demangle_cell_trees.specs.declared.roles.Role.{Role}
 use Rattle.demangle_cell_trees.specs.declared.roles.Role.TheVariants as of_role
 use Rattle.demangle_cell_trees.specs.declared.roles.Sought.{Sought}
 use Rattle.demangle_cell_trees.specs.declared.roles.Sought.TheVariants as of_sought
-use Rattle.demangle_cell_trees.specs.declared.turns.Step.{Step}
-use Rattle.demangle_cell_trees.specs.declared.turns.Step.TheVariants as of_step
-use Rattle.demangle_cell_trees.specs.declared.turns.Turn.{Turn}
-use Rattle.demangle_cell_trees.specs.declared.turns.Turn.TheVariants as of_turn
 
 -- ---- the look-ups
 abbrev pub node_of : Sought → Tag → Core → List (Next Core) → Next Core
@@ -58,8 +54,11 @@ choice_of (Some a) b = else_next a b
 
 abbrev pub role_says : Role → Core → List (Next Core) → Next Core
 role_says of_role.Itself x steps = answer x
-role_says (of_role.Part n) x steps = or_nothing (nth n steps)
-role_says (of_role.Choice a b) x steps = choice_of (nth a steps) (or_nothing (nth b steps))
+role_says of_role.First x steps = or_nothing (nth 0 steps)
+role_says of_role.Second x steps = or_nothing (nth 1 steps)
+role_says of_role.Third x steps = or_nothing (nth 2 steps)
+role_says of_role.SecondElseFirst x steps = choice_of (nth 1 steps) (or_nothing (nth 0 steps))
+role_says of_role.FourthElseThird x steps = choice_of (nth 3 steps) (or_nothing (nth 2 steps))
 role_says of_role.Nothing x steps = nothing
 
 -- where one comes to in a part, if it is there
@@ -71,8 +70,7 @@ abbrev pub holds_it : Sought → Tag → Bool
 holds_it of_sought.PrefixArguments Tag.SubstitutablePrefix = true
 holds_it of_sought.PrefixArguments t = false
 holds_it of_sought.TypeArguments Tag.SubstitutableTypeNode = true
-holds_it of_sought.TypeArguments t = false
-holds_it s t = true
+holds_it s t = false
 
 abbrev pub if_holds : Bool → Next Core → Next Core
 if_holds true s = s
@@ -86,16 +84,21 @@ arguments_in s _ = nothing
 abbrev pub is_leaf_word : ℕ → ℕ → Bool
 is_leaf_word t w = (t == 2) && nat_lt 0 w
 
-abbrev pub word_in : Cell → Option (ℕ × ℕ)
-word_in (of_cell.Word t w) = Some (t, w)
-word_in _ = None
+-- ---- steps by a number: an index that is the answer, and behind all indexes a component
+abbrev pub first_numbered : ℕ
+first_numbered = 4294967296
 
--- ---- steps and turns
-abbrev pub next_of : Step → Next Core
-next_of (of_step.Answer n) = answer (node_tree n)
-next_of of_step.Nothing = nothing
-next_of (of_step.Numbered k) = at N k
-next_of (of_step.Other k) = at U k
+abbrev pub first_other : ℕ
+first_other = 8589934592
+
+abbrev pub past_steps : ℕ
+past_steps = 12884901888
+
+abbrev pub step_of : Arena → ℕ → Next Core
+step_of a n =
+    if nat_lt n first_numbered then answer (tree_at a n) else
+    if nat_lt n first_other then at N (n - first_numbered) else
+    if nat_lt n past_steps then at U (n - first_other) else nothing
 
 abbrev pub is_nothing : Next Core → Bool
 is_nothing nothing = true
@@ -128,7 +131,30 @@ pub record Offers (s : Sought) (x : Core) (y z : Option Core) : Type 0 where
   pub smaller : IfSome y (λ c. size c < size x)
   pub other : IfSome z (λ c. size c < size x)
 
-abbrev pub Turns : Sought → Core → Turn → Type 0
-Turns s x (of_turn.Done st) = next_of st ≡ step_in s x
-Turns s x (of_turn.Into n) = Goes s x (node_tree n)
-Turns s x (of_turn.Either n o) = Chooses s x (node_tree n) (option_map node_tree o)
+-- What is to be done by a number: a step, or in the upper half 4, to go into the part whose index is in the lower half,
+-- or 5, the same and maybe into the first part, or 6, maybe into the third.
+abbrev pub is_step : ℕ → Bool
+is_step n = nat_lt (n / first_inside) 4 || nat_lt 6 (n / first_inside)
+
+abbrev pub part_index : ℕ → ℕ
+part_index n = n % first_inside
+
+abbrev pub other_part : ℕ → ℕ
+other_part n = ((n / first_inside) - 5) * 2
+
+-- a choice whose first part is still to be said
+pub record IsWay (n : ℕ) : Type 0 where
+  pub low : 5 ≤ n / first_inside
+  pub high : n / first_inside ≤ 6
+  pub whole : n ≡ (n / first_inside) * first_inside
+
+pub record Turns (s : Sought) (a : Arena) (x : Core) (n : ℕ) : Type 0 where
+  pub done : is_step n ≡ true → step_of a n ≡ step_in s x
+  pub into : n / first_inside ≡ 4 → Goes s x (tree_at a (part_index n))
+  pub plain : 5 ≤ n / first_inside → n / first_inside ≤ 6 → has_plain x ≡ true
+  pub choice : 5 ≤ n / first_inside → n / first_inside ≤ 6
+      → Chooses s x (tree_at a (part_index n)) (nth (other_part n) (parts_in x))
+
+-- a part by its index
+abbrev pub index_tree : Arena → ℕ → Option Core
+index_tree a n = if nat_lt n first_inside then Some (tree_at a n) else None

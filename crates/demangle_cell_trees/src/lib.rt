@@ -2,15 +2,16 @@
 #![tactic(auto)]
 
 mod cells;
+mod codes;
 mod counts;
 mod held;
+mod known;
 mod laws;
 mod lookups;
 mod node;
 mod parts;
 mod roles;
 mod rows;
-mod seen;
 mod shapes;
 mod tags;
 mod texts;
@@ -20,4 +21,4 @@ mod values;
 mod words;
 
 pub use laws::each_arena_has_trees;
-pub use node::Node;
+pub use node::{Node, tree_at};

@@ -1,49 +1,62 @@
 //! What is looked up in names and types.
 
-ghost use Rattle.std.specs.Prelude.{◌≡◌, option_map};
-ghost use Rattle.demangle_core.specs.Lookups.{after, answer_of, refers, step_from};
+ghost use Rattle.std.specs.Prelude.{◌≡◌, ◌≤◌, ℕ, Option, option_map};
+ghost use Rattle.demangle_core.specs.Lookups.{after, answer_of, refers, settled, step_from};
+ghost use Rattle.demangle_cells.specs.Fixed.{first_reference};
 ghost use Rattle.demangle_cells.specs.Tags.{tag_of};
-ghost use Rattle.demangle_cell_trees.specs.ArenaTrees.{IsCell, table_of, tree_at};
+ghost use Rattle.demangle_cells.specs.declared.arena.Arena.{Arena};
+ghost use Rattle.demangle_cell_trees.specs.ArenaTrees.{table_of, tree_at};
+ghost use Rattle.demangle_cell_trees.specs.Codes.{IsPart};
 ghost use Rattle.demangle_cell_trees.specs.NodeTrees.{node_tree};
 ghost use Rattle.demangle_cell_trees.specs.Steps.{arguments_in, component_in, found_in, holds_it};
-ghost use Rattle.demangle_cell_trees.specs.Steps.{is_nothing, next_of, part_says, step_in};
+ghost use Rattle.demangle_cell_trees.specs.Steps.{part_says, step_in, step_of};
+ghost use Rattle.demangle_cell_trees.specs.declared.roles.Sought.{Sought};
 
-use crate::cells::{cell_at, entry_count, numbered, other};
+use crate::cells::{FIRST_OTHER_REFERENCE, FIRST_REFERENCE, cell_at, entry_count, numbered, other};
+use crate::codes::{FIRST_INSIDE, NONE, low_half};
 use crate::node::Node;
-use crate::roles::{Sought, own_tag};
-use crate::turns::{Step, Turn, first_part, turn_of};
-use demangle_cells::{Arena, Cell, Tag};
+use crate::roles::Sought;
+use crate::rows::{index_in, row_tag};
+use crate::turns::{
+    ELSE_FIRST, FIRST_NUMBERED, FIRST_OTHER, PAST_STEPS, index_at, is_step, other_part, turn_at,
+};
+use demangle_cells::{Arena, Tag};
 
-/// Whether a look-up comes to nothing.
-fn is_nothing(step: Step<'_>) -> bool
-    ensures { result ≡ is_nothing (next_of step.entry) }
+/// The step to the component of a reference.
+#[inline(always)]
+fn reference_step(id: u32) -> u64
+    requires { first_reference ≤ id }
+    ensures { (s : Sought) (a : Arena) → step_of a result ≡ step_in s (tree_at a id) }
 {
-    match step {
-        Step::Nothing => true,
-        Step::Answer(_) => false,
-        Step::Numbered(_) => false,
-        Step::Other(_) => false,
+    if id >= FIRST_OTHER_REFERENCE {
+        return FIRST_OTHER + (id - FIRST_OTHER_REFERENCE) as u64;
     }
+    FIRST_NUMBERED + (id - FIRST_REFERENCE) as u64
 }
 
 /// Where a look-up comes to in a tree.
-fn step_of<'a>(sought: Sought, node: Node<'a>) -> Step<'a>
-    ensures { next_of result ≡ step_in sought (node_tree node.entry) }
+fn node_step(sought: Sought, arena: &Arena, id: u32) -> u64
+    ensures { step_of arena.now result ≡ step_in sought (tree_at arena.now id) }
 {
-    match turn_of(sought, node) {
-        Turn::Done(step) => step,
-        Turn::Into(part) => step_of(sought, part),
-        Turn::Either(first, second) => {
-            let step = step_of(sought, first);
-            if !is_nothing(step) {
-                return step;
-            }
-            match second {
-                None => Step::Nothing,
-                Some(part) => step_of(sought, part),
-            }
-        }
+    if id >= FIRST_REFERENCE {
+        return reference_step(id);
     }
+    let turn = turn_at(sought, arena, id);
+    if is_step(turn) {
+        return turn;
+    }
+    if turn < ELSE_FIRST {
+        return node_step(sought, arena, low_half(turn));
+    }
+    let step = node_step(sought, arena, low_half(turn));
+    if step < PAST_STEPS {
+        return step;
+    }
+    let second = index_at(arena, id, other_part(turn));
+    if second < FIRST_INSIDE {
+        return node_step(sought, arena, second as u32);
+    }
+    NONE
 }
 
 /// Whether a component with this tag may hold what is looked up, in its one part.
@@ -59,116 +72,113 @@ fn holds_it(sought: Sought, tag: Tag) -> bool
             Tag::SubstitutableTypeNode => true,
             _ => false,
         },
-        Sought::LeafName => true,
-        Sought::Special => true,
+        Sought::LeafName => false,
+        Sought::Special => false,
     }
 }
 
 /// Where a look-up comes to in a part, if it is there.
-fn part_step<'a>(sought: Sought, part: Option<Node<'a>>) -> Step<'a>
-    ensures { next_of result ≡ part_says sought (option_map node_tree part.entry) }
+fn part_step(sought: Sought, arena: &Arena, part: u64) -> u64
+    ensures { (o : Option ℕ) → IsPart o part
+        → step_of arena.now result ≡ part_says sought (option_map (tree_at arena.now) o) }
 {
-    match part {
-        None => Step::Nothing,
-        Some(node) => step_of(sought, node),
+    if part < FIRST_INSIDE {
+        return node_step(sought, arena, part as u32);
     }
-}
-
-/// Where a look-up of template arguments comes to in a component with a cell.
-fn arguments_step<'a>(sought: Sought, arena: &'a Arena, id: u32, cell: Cell) -> Step<'a>
-    requires { IsCell arena.now id cell }
-    ensures { next_of result ≡ arguments_in sought (tree_at arena.now id) }
-{
-    match own_tag(cell) {
-        None => Step::Nothing,
-        Some(tag) => {
-            if holds_it(sought, tag) {
-                part_step(sought, first_part(arena, id, cell))
-            } else {
-                Step::Nothing
-            }
-        }
-    }
+    NONE
 }
 
 /// Where a look-up of template arguments comes to in a component.
-fn arguments_at<'a>(sought: Sought, arena: &'a Arena, id: u32) -> Step<'a>
-    ensures { next_of result ≡ arguments_in sought (tree_at arena.now id) }
+fn arguments_step(sought: Sought, arena: &Arena, id: u32) -> u64
+    ensures { step_of arena.now result ≡ arguments_in sought (tree_at arena.now id) }
 {
-    match cell_at(arena, id) {
-        None => Step::Nothing,
-        Some(cell) => arguments_step(sought, arena, id, cell),
+    let cell = cell_at(arena, id);
+    let Some(tag) = row_tag(cell) else {
+        return NONE;
+    };
+    if holds_it(sought, tag) {
+        part_step(sought, arena, index_in(arena, cell, 0))
+    } else {
+        NONE
     }
 }
 
 /// Where a look-up comes to in a component.
-fn component_step<'a>(sought: Sought, arena: &'a Arena, id: u32) -> Step<'a>
-    ensures { next_of result ≡ component_in sought (tree_at arena.now id) }
+fn component_step(sought: Sought, arena: &Arena, id: u32) -> u64
+    ensures { step_of arena.now result ≡ component_in sought (tree_at arena.now id) }
 {
     match sought {
-        Sought::LeafName => step_of(sought, Node::At(id, arena)),
-        Sought::Special => step_of(sought, Node::At(id, arena)),
-        Sought::PrefixArguments => arguments_at(sought, arena, id),
-        Sought::TypeArguments => arguments_at(sought, arena, id),
+        Sought::LeafName => node_step(sought, arena, id),
+        Sought::Special => node_step(sought, arena, id),
+        Sought::PrefixArguments => arguments_step(sought, arena, id),
+        Sought::TypeArguments => arguments_step(sought, arena, id),
     }
 }
 
 /// Where a look-up comes to in a component, if it is there.
-fn found_step<'a>(sought: Sought, found: Option<u32>, subs: &'a Arena) -> Step<'a>
-    ensures { next_of result ≡ step_from (component_in sought) (option_map (tree_at subs.now) found) }
+fn found_step(sought: Sought, found: Option<u32>, subs: &Arena) -> u64
+    ensures { step_of subs.now result ≡ step_from (component_in sought) (option_map (tree_at subs.now) found) }
 {
     match found {
-        None => Step::Nothing,
+        None => NONE,
         Some(id) => component_step(sought, subs, id),
     }
 }
 
 /// One turn: a component gives way to where its own step comes to.
-fn after<'a>(sought: Sought, step: Step<'a>, subs: &'a Arena) -> Step<'a>
-    ensures { next_of result ≡ after (component_in sought) (table_of subs.now) (next_of step.entry) }
+fn after(sought: Sought, step: u64, subs: &Arena) -> u64
+    ensures { step_of subs.now result ≡ after (component_in sought) (table_of subs.now) (step_of subs.now step) }
 {
-    match step {
-        Step::Numbered(number) => found_step(sought, numbered(subs, number), subs),
-        Step::Other(number) => found_step(sought, other(subs, number), subs),
-        Step::Answer(node) => Step::Answer(node),
-        Step::Nothing => Step::Nothing,
+    let number = low_half(step);
+    match step / FIRST_INSIDE {
+        1 => found_step(sought, numbered(subs, number), subs),
+        2 => found_step(sought, other(subs, number), subs),
+        _ => step,
     }
 }
 
 /// Whether it has come to a component.
-fn refers(step: Step<'_>) -> bool
-    ensures { result ≡ refers (next_of step.entry) }
+#[inline(always)]
+fn refers(step: u64) -> bool
+    ensures { (a : Arena) → result ≡ refers (step_of a step) }
 {
-    match step {
-        Step::Numbered(_) => true,
-        Step::Other(_) => true,
-        Step::Answer(_) => false,
-        Step::Nothing => false,
-    }
+    step >= FIRST_NUMBERED && step < PAST_STEPS
 }
 
 /// The answer, where it has come to one.
-fn answer_of<'a>(step: Step<'a>) -> Option<Node<'a>>
-    ensures { option_map node_tree result ≡ answer_of (next_of step.entry) }
+#[inline(always)]
+fn answer_of<'a>(arena: &'a Arena, step: u64) -> Option<Node<'a>>
+    ensures { option_map node_tree result ≡ answer_of (step_of arena.now step) }
 {
-    match step {
-        Step::Answer(node) => Some(node),
-        Step::Nothing => None,
-        Step::Numbered(_) => None,
-        Step::Other(_) => None,
+    if step < FIRST_NUMBERED {
+        return Some(Node { arena, at: step });
     }
+    None
 }
 
-/// What is looked up in a tree. References are followed by a loop, at most as often as there are components.
+/// What is looked up from the step to a component on. References are followed by a loop, at most as often as there are
+/// components.
 #[tactic(auto, using(demangle_core::proofs::Resolved::following))]
-pub(crate) fn found<'a>(sought: Sought, node: Node<'a>, subs: &'a Arena) -> Option<Node<'a>>
-    ensures { option_map node_tree result ≡ found_in sought (table_of subs.now) (node_tree node.entry) }
+fn settled(sought: Sought, first: u64, subs: &Arena) -> u64
+    ensures { answer_of (step_of subs.now result)
+        ≡ settled (component_in sought) (table_of subs.now) (step_of subs.now first) }
 {
-    let mut step = step_of(sought, node);
+    let mut step = first;
     let mut more = entry_count(subs);
     while more > 0 && refers(step) {
         step = after(sought, step, subs);
         more -= 1;
     }
-    answer_of(step)
+    step
+}
+
+/// What is looked up in a tree.
+pub(crate) fn found<'a>(sought: Sought, node: Node<'a>, subs: &'a Arena) -> Option<Node<'a>>
+    ensures { option_map node_tree result ≡ found_in sought (table_of subs.now) (node_tree node.entry) }
+{
+    let step = node_step(sought, node.arena, low_half(node.at));
+    if step < FIRST_NUMBERED {
+        return answer_of(node.arena, step);
+    }
+    answer_of(subs, settled(sought, step, subs))
 }

@@ -1,12 +1,9 @@
 //! Where in a node it is that is looked up.
 
-ghost use Rattle.std.specs.Prelude.{◌≡◌, List, ℕ, option_map};
-ghost use Rattle.demangle_core.specs.Core.{Core};
-ghost use Rattle.demangle_cells.specs.Cells.{tree};
-ghost use Rattle.demangle_cells.specs.Tags.{tag_of};
-ghost use Rattle.demangle_cell_trees.specs.Roles.{arguments_role, leaf_role, role_in, special_role, tag_in};
+ghost use Rattle.std.specs.Prelude.{◌≡◌};
+ghost use Rattle.demangle_cell_trees.specs.Roles.{arguments_role, leaf_role, role_in, special_role};
 
-use demangle_cells::{Cell, Tag};
+use demangle_cells::Tag;
 
 /// What is looked up.
 #[derive(Clone, Copy)]
@@ -26,10 +23,16 @@ pub(crate) enum Sought {
 pub(crate) enum Role {
     /// It is the node itself.
     Itself,
-    /// In the part of this number.
-    Part(usize),
-    /// In the first of these parts, and where there is none in the second.
-    Choice(usize, usize),
+    /// In the first part.
+    First,
+    /// In the second part.
+    Second,
+    /// In the third part.
+    Third,
+    /// In the second part, and where there is none in the first.
+    SecondElseFirst,
+    /// In the fourth part, and where there is none in the third.
+    FourthElseThird,
     /// Nowhere.
     Nothing,
 }
@@ -66,11 +69,11 @@ fn leaf_role(tag: Tag) -> Role
         | Tag::TypeNodeClassEnum
         | Tag::SubstitutableUnscopedTemplateName
         | Tag::SubstitutableTypeNode
-        | Tag::SubstitutablePrefix => Role::Part(0),
-        Tag::NestedNameUnqualified => Role::Choice(3, 2),
-        Tag::NestedNameTemplate | Tag::LocalNameDefault => Role::Part(2),
-        Tag::NestedNameUnqualifiedExplicitObject | Tag::PrefixNested => Role::Choice(1, 0),
-        Tag::LocalNameRelative | Tag::PrefixDataMember => Role::Part(1),
+        | Tag::SubstitutablePrefix => Role::First,
+        Tag::NestedNameUnqualified => Role::FourthElseThird,
+        Tag::NestedNameTemplate | Tag::LocalNameDefault => Role::Third,
+        Tag::NestedNameUnqualifiedExplicitObject | Tag::PrefixNested => Role::SecondElseFirst,
+        Tag::LocalNameRelative | Tag::PrefixDataMember => Role::Second,
         _ => Role::Nothing,
     }
 }
@@ -89,13 +92,13 @@ fn arguments_role(tag: Tag) -> Role
         | Tag::NestedNameTemplateExplicitObject
         | Tag::TypeNodePointerTo
         | Tag::TypeNodeLvalueRef
-        | Tag::TypeNodeRvalueRef => Role::Part(0),
+        | Tag::TypeNodeRvalueRef => Role::First,
         Tag::NameUnscopedTemplate
         | Tag::LocalNameRelative
         | Tag::PrefixTemplate
         | Tag::TypeNodeTemplateTemplate
-        | Tag::TypeNodeVendorExtension => Role::Part(1),
-        Tag::NestedNameTemplate | Tag::LocalNameDefault => Role::Part(2),
+        | Tag::TypeNodeVendorExtension => Role::Second,
+        Tag::NestedNameTemplate | Tag::LocalNameDefault => Role::Third,
         _ => Role::Nothing,
     }
 }
@@ -118,9 +121,9 @@ fn special_role(tag: Tag) -> Role
         | Tag::PrefixTemplate
         | Tag::NestedNameUnqualifiedExplicitObject
         | Tag::NestedNameTemplateExplicitObject
-        | Tag::SubstitutablePrefix => Role::Part(0),
-        Tag::PrefixNested => Role::Part(1),
-        Tag::NestedNameUnqualified | Tag::NestedNameTemplate => Role::Part(2),
+        | Tag::SubstitutablePrefix => Role::First,
+        Tag::PrefixNested => Role::Second,
+        Tag::NestedNameUnqualified | Tag::NestedNameTemplate => Role::Third,
         _ => Role::Nothing,
     }
 }
@@ -134,32 +137,5 @@ pub(crate) fn role_in(sought: Sought, tag: Tag) -> Role
         Sought::PrefixArguments => arguments_role(tag),
         Sought::TypeArguments => arguments_role(tag),
         Sought::Special => special_role(tag),
-    }
-}
-
-/// The tag of the tree of a cell, where that is a node.
-#[inline(always)]
-pub(crate) fn own_tag(cell: Cell) -> Option<Tag>
-    ensures { (F : ℕ → Core) (list : List ℕ) → option_map tag_of result ≡ tag_in (tree F list cell) }
-{
-    match cell {
-        Cell::Empty(tag) => Some(tag),
-        Cell::One(tag, _) => Some(tag),
-        Cell::Two(tag, _, _) => Some(tag),
-        Cell::Three(tag, _, _, _) => Some(tag),
-        Cell::Many(tag, _, _) => Some(tag),
-        Cell::Text(tag, _, _) => Some(tag),
-        Cell::Count(tag, _) => Some(tag),
-        Cell::Named(tag, _, _) => Some(tag),
-        Cell::EmptyList(tag) => Some(tag),
-        Cell::Arguments(_, _, _) => Some(Tag::TemplateArgs),
-        Cell::Qualifiers(_, _, _) => Some(Tag::CvQualifiers),
-        Cell::Builtin(_) => Some(Tag::TypeHandleBuiltin),
-        Cell::Reference(_) => Some(Tag::BackReference),
-        Cell::Other(_) => Some(Tag::NonSubstitution),
-        Cell::Place(_, _) => None,
-        Cell::Number(_) => None,
-        Cell::Word(_, _) => None,
-        Cell::Flag(_) => None,
     }
 }

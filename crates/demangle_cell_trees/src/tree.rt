@@ -1,10 +1,13 @@
 //! Nodes as the trees of lines.
 
+use crate::counts::count_of;
 use crate::held::printed_of;
+use crate::known::{is_unqualified, plain_name_of};
 use crate::lookups::found;
 use crate::node::Node;
+use crate::parts::part_of;
 use crate::roles::Sought;
-use crate::seen::{count_of, part_of, shape_of};
+use crate::shapes::shape_of;
 use crate::texts::{leaf_text_of, text_of};
 use crate::values::{began_of, bytes_of, index_in, number_in};
 use demangle_cells::Arena;
@@ -34,6 +37,16 @@ impl<'a> Tree<&'a Arena> for Node<'a> {
     #[inline(always)]
     fn bytes<'s>(self, input: &'s [u8]) -> &'s [u8] {
         bytes_of(self, input)
+    }
+
+    #[inline(always)]
+    fn plain_name<'s>(self, input: &'s [u8]) -> Option<&'s [u8]> {
+        plain_name_of(self, input)
+    }
+
+    #[inline(always)]
+    fn is_unqualified(self) -> bool {
+        is_unqualified(self)
     }
 
     fn number(self) -> Number {

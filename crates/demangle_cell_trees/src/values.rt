@@ -6,18 +6,17 @@ ghost use Rattle.demangle_grammar.specs.Sound.{bytes_of};
 ghost use Rattle.demangle_printing.specs.Reader.{bytes_seen, index_seen};
 ghost use Rattle.demangle_printing.specs.Trees.{began_at, look_in};
 ghost use Rattle.demangle_lines.specs.Shapes.{number_of, value_seen};
-ghost use Rattle.demangle_cell_trees.specs.ArenaTrees.{tree_at};
 ghost use Rattle.demangle_cell_trees.specs.NodeTrees.{node_tree};
 ghost use Rattle.demangle_cell_trees.specs.Own.{began_in, place_in, value_in};
 
-use crate::cells::cell_at;
+use crate::cells::{cell_of, kept_of};
 use crate::node::Node;
-use demangle_cells::{Arena, Cell};
+use demangle_cells::Plain;
 use demangle_lines::Number;
 
 /// The bytes from one place of the input up to another.
 #[inline(always)]
-fn between(input: &[u8], start: u32, stop: u32) -> &[u8]
+pub(crate) fn between(input: &[u8], start: u32, stop: u32) -> &[u8]
     ensures { result.now ≡ bytes_of input.now start stop }
 {
     let rest = match input.get(start as usize..) {
@@ -32,25 +31,12 @@ fn between(input: &[u8], start: u32, stop: u32) -> &[u8]
 
 /// The place that a cell is.
 #[inline(always)]
-fn place_in(cell: Cell) -> (u32, u32)
+fn place_in(cell: Plain) -> (u32, u32)
     ensures { result ≡ place_in cell }
 {
     match cell {
-        Cell::Place(start, stop) => (start, stop),
+        Plain::Place(start, stop) => (start, stop),
         _ => (0, 0),
-    }
-}
-
-/// The bytes of the tree of an index.
-pub(crate) fn bytes_at<'s>(arena: &Arena, id: u32, input: &'s [u8]) -> &'s [u8]
-    ensures { (table : Table) → result.now ≡ bytes_seen (look_in table input.now (tree_at arena.now id)) }
-{
-    match cell_at(arena, id) {
-        None => &[],
-        Some(cell) => {
-            let (start, stop) = place_in(cell);
-            between(input, start, stop)
-        }
     }
 }
 
@@ -59,37 +45,24 @@ pub(crate) fn bytes_at<'s>(arena: &Arena, id: u32, input: &'s [u8]) -> &'s [u8]
 pub(crate) fn bytes_of<'s>(node: Node<'_>, input: &'s [u8]) -> &'s [u8]
     ensures { (table : Table) → result.now ≡ bytes_seen (look_in table input.now (node_tree node.entry)) }
 {
-    match node {
-        Node::Place(start, stop) => between(input, start, stop),
-        Node::At(id, arena) => bytes_at(arena, id, input),
-        Node::Members(_, _) => &[],
-        Node::Word(_, _) => &[],
-        Node::Number(_) => &[],
-        Node::Builtin(_) => &[],
-        Node::Numbered(_) => &[],
-        Node::Other(_) => &[],
+    match kept_of(node.arena, node.at) {
+        None => &[],
+        Some(cell) => {
+            let (start, stop) = place_in(cell);
+            between(input, start, stop)
+        }
     }
 }
 
 /// The number that a cell is.
 #[inline(always)]
-fn value_in(cell: Cell) -> Number
+fn value_in(cell: Plain) -> Number
     ensures { number_of result ≡ value_in cell }
 {
     match cell {
-        Cell::Number(number) => Number::Signed(number),
+        Plain::Number(number) => Number::Signed(number),
+        Plain::Counted(number) => Number::Counted(number),
         _ => Number::Counted(0),
-    }
-}
-
-/// The number that the tree of an index is; 0 elsewhere.
-fn number_at(arena: &Arena, id: u32) -> Number
-    ensures { (table : Table) (input : List ℕ) → number_of result
-        ≡ value_seen (look_in table input (tree_at arena.now id)) }
-{
-    match cell_at(arena, id) {
-        None => Number::Counted(0),
-        Some(cell) => value_in(cell),
     }
 }
 
@@ -98,16 +71,7 @@ pub(crate) fn number_in(node: Node<'_>) -> Number
     ensures { (table : Table) (input : List ℕ) → number_of result
         ≡ value_seen (look_in table input (node_tree node.entry)) }
 {
-    match node {
-        Node::Number(number) => Number::Counted(number),
-        Node::At(id, arena) => number_at(arena, id),
-        Node::Members(_, _) => Number::Counted(0),
-        Node::Word(_, _) => Number::Counted(0),
-        Node::Place(_, _) => Number::Counted(0),
-        Node::Builtin(_) => Number::Counted(0),
-        Node::Numbered(_) => Number::Counted(0),
-        Node::Other(_) => Number::Counted(0),
-    }
+    value_in(cell_of(node.arena, node.at))
 }
 
 /// The number that a tree is, where it isn't below zero; 0 elsewhere.
@@ -122,38 +86,18 @@ pub(crate) fn index_in(node: Node<'_>) -> usize
 
 /// Where the list of template arguments that a cell is began in the input; 0 elsewhere.
 #[inline(always)]
-fn began_in(cell: Cell) -> u32
+fn began_in(cell: Plain) -> u32
     ensures { result ≡ began_in cell }
 {
     match cell {
-        Cell::Arguments(at, _, _) => at,
+        Plain::Arguments(at, _) => at,
         _ => 0,
     }
 }
 
-/// Where the tree of an index began in the input, where it is a list of template arguments; 0 elsewhere.
-fn index_began(arena: &Arena, id: u32) -> usize
-    ensures { result ≡ began_at (tree_at arena.now id) }
-{
-    match cell_at(arena, id) {
-        None => 0,
-        Some(cell) => began_in(cell) as usize,
-    }
-}
-
 /// Where a tree began in the input, where it is a list of template arguments; 0 elsewhere.
-#[inline(always)]
 pub(crate) fn began_of(node: Node<'_>) -> usize
     ensures { result ≡ began_at (node_tree node.entry) }
 {
-    match node {
-        Node::At(id, arena) => index_began(arena, id),
-        Node::Members(_, _) => 0,
-        Node::Word(_, _) => 0,
-        Node::Number(_) => 0,
-        Node::Place(_, _) => 0,
-        Node::Builtin(_) => 0,
-        Node::Numbered(_) => 0,
-        Node::Other(_) => 0,
-    }
+    began_in(cell_of(node.arena, node.at)) as usize
 }

@@ -11,3 +11,4 @@ pub mod Numbers
 pub mod Entries
 pub mod LeafNames
 pub mod Doing
+pub mod Identifiers

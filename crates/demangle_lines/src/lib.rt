@@ -7,9 +7,9 @@ mod below;
 mod bytes;
 mod items;
 mod leaves;
-mod level;
 mod lookups;
 mod parts;
+mod plain;
 mod scope;
 mod scopes;
 mod tags;
@@ -24,10 +24,11 @@ pub use at::{
 pub use below::Below;
 pub use items::{all_waiting, close, close_spaced, hold, take_top, taken};
 pub use leaves::{argument, inner_leaf, leaf, need_leaf};
-pub use level::Level;
 pub use parts::{
-    entry, inner_part, innermost_part, itself, line_of, lines, list, members, operand, part,
+    entry, first_part, inner_part, innermost_part, itself, line_of, lines, list, members, operand,
+    part,
 };
+pub use plain::name_part;
 pub use scope::{Scope, empty, found_arguments, found_leaf, member};
 pub use scopes::{
     with_inner_these, with_leaf_name, with_prefix_arguments, with_these, with_type_arguments,

@@ -19,6 +19,7 @@ use crate::tree::Tree;
 use demangle_context::{Context, DemangleWrite};
 
 /// The line of what is printed for a tree.
+#[inline(always)]
 pub fn itself<'s, T: Tree<S>, S: 's, W: DemangleWrite, B: Below<'s, T, S, W>>(
     below: B,
     tree: T,
@@ -67,6 +68,22 @@ pub fn part<'s, T: Tree<S>, S: 's, W: DemangleWrite, B: Below<'s, T, S, W>>(
         (lent_scope T.tree scope.entry)) }
 {
     line_of(below, part_at(below, tree, number), scope, ctx);
+}
+
+/// The line of the first part. It is made where it is called, so that lines that pass on become one loop.
+#[inline(always)]
+pub fn first_part<'s, T: Tree<S>, S: 's, W: DemangleWrite, B: Below<'s, T, S, W>>(
+    below: B,
+    tree: T,
+    scope: Option<&Scope<'_, T>>,
+    ctx: &mut Context<'s, '_, T, S, W>,
+)
+    requires { B.can below }
+    ensures { Meets (B.at below) (page T.tree T.table W.seen ctx.old) (page T.tree T.table W.seen ctx.new) (line_of
+        (world_of (B.at below).refers) (find (world_of (B.at below).refers) (Some (T.tree tree)) (0 ∷ []))
+        (lent_scope T.tree scope.entry)) }
+{
+    line_of(below, part_at(below, tree, 0), scope, ctx);
 }
 
 /// The line of a part of a part.

@@ -1,6 +1,6 @@
 //! What lines depend on.
 
-ghost use Rattle.std.specs.Prelude.{◌≡◌, ◌∷◌, [], ℕ, Some, is_some, option_map};
+ghost use Rattle.std.specs.Prelude.{◌≡◌, ◌∷◌, [], ℕ, Some, is_some, option_map, true};
 ghost use Rattle.demangle_core.specs.Lookups.{as_prefix, as_type};
 ghost use Rattle.demangle_printing.specs.Parameters.{any_set};
 ghost use Rattle.demangle_printing.specs.Reader.{is_bare, is_special_tree};
@@ -9,6 +9,7 @@ ghost use Rattle.demangle_printing.specs.Step.{Test};
 ghost use Rattle.demangle_printing.specs.World.{listed};
 ghost use Rattle.demangle_meets.specs.Place.{world_of};
 ghost use Rattle.demangle_lines.specs.Does.{Says};
+ghost use Rattle.demangle_lines.specs.Known.{unqualified};
 ghost use Rattle.demangle_lines.specs.Shapes.{flag_shape, is_number, is_tag, is_word_shape};
 
 use crate::at::{
@@ -170,6 +171,17 @@ pub fn is_anonymous<'s, T: Tree<S>, S: 's, W: DemangleWrite, B: Below<'s, T, S, 
     bytes::is_anonymous(bytes_of(below, part_at(below, tree, number)))
 }
 
+/// Whether it is seen at once that nothing is so of which the parts of a list speak.
+#[inline(always)]
+fn is_unqualified<T: Tree<S>, S>(found: Option<T>) -> bool
+    ensures { result ≡ true → option_map T.tree found ≡ Some unqualified }
+{
+    match found {
+        None => false,
+        Some(tree) => tree.is_unqualified(),
+    }
+}
+
 /// Whether some part of a list says that something is so.
 pub fn any_set<'s, T: Tree<S>, S: 's, W: DemangleWrite, B: Below<'s, T, S, W>>(
     below: B,
@@ -178,6 +190,9 @@ pub fn any_set<'s, T: Tree<S>, S: 's, W: DemangleWrite, B: Below<'s, T, S, W>>(
     ensures { result ≡ any_set (world_of (B.at below).refers) (listed (world_of (B.at below).refers) (option_map T.tree
         list)) }
 {
+    if is_unqualified(list) {
+        return false;
+    }
     let count = count_of(below, list);
     for number in 0..count {
         if is_set(shape_of(below, entry_of(below, list, number))) {

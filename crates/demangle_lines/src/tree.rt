@@ -1,12 +1,13 @@
 //! Trees, as lines see them.
 
-ghost use Rattle.std.specs.Prelude.{◌≡◌, List, ℕ, Some, length, option_map};
+ghost use Rattle.std.specs.Prelude.{◌≡◌, IfSome, List, ℕ, Some, length, option_map, true};
 ghost use Rattle.demangle_core.specs.Lookups.{as_prefix, as_type, is_special, leaf_name, template_args};
 ghost use Rattle.demangle_core.specs.Table.{Table};
 ghost use Rattle.demangle_printing.specs.Reader.{bytes_seen, index_seen};
 ghost use Rattle.demangle_printing.specs.Rules.{of_part};
 ghost use Rattle.demangle_printing.specs.Trees.{began_at, look_in, with_table};
 ghost use Rattle.demangle_printing.specs.World.{nth, parts_seen};
+ghost use Rattle.demangle_lines.specs.Known.{IsPlainName, unqualified};
 ghost use Rattle.demangle_lines.specs.Shapes.{leaf_text_seen, number_of, shape_in, text_seen, value_seen};
 
 use demangle_context::RefersTo;
@@ -86,6 +87,14 @@ pub trait Tree<S>: RefersTo<S> {
     /// Where it began in the input, where it is a list of template arguments; 0 elsewhere.
     fn began(self) -> usize
         ensures { result ≡ began_at (Self.tree self) };
+
+    /// The bytes of an unqualified name that is an identifier alone, where this is seen at once. `None` says nothing.
+    fn plain_name<'s>(self, input: &'s [u8]) -> Option<&'s [u8]>
+        ensures { IfSome result (λ bytes. IsPlainName input.now (Self.tree self) bytes.now) };
+
+    /// Whether it is seen at once that it is the qualifiers of a type, and that it has none. `false` says nothing.
+    fn is_unqualified(self) -> bool
+        ensures { result ≡ true → Self.tree self ≡ unqualified };
 
     /// The leaf name of a name or a type.
     fn leaf_name(self, subs: &S) -> Option<Self>

@@ -25,7 +25,7 @@ ghost use Rattle.demangle_lines_names.specs.Choices.{choice_15_if, choice_15_yes
 use demangle_context::{Context, DemangleNodeType, DemangleWrite, PrintFlag};
 use demangle_lines::{
     Below, Scope, Tree, count_of, entry_of, inner_leaf, is_anonymous, is_qualified, is_there,
-    is_word, itself, leaf, name, part, part_at, spelled_itself,
+    is_word, itself, leaf, name, name_part, part_at, spelled_itself,
 };
 
 /// Steps for a tree of a list.
@@ -125,7 +125,7 @@ pub(crate) fn choice_2<'s, T: Tree<S>, S: 's, W: DemangleWrite, B: Below<'s, T, 
         tree) (lent_scope T.tree scope.entry) choice_2_if choice_2_yes choice_2_no }
 {
     if is_there(below, tree, 2) {
-        part(below, tree, 2, scope, ctx);
+        name_part(below, tree, 2, scope, ctx);
         ctx.text("::");
     }
 }
@@ -157,7 +157,7 @@ pub(crate) fn choice_3<'s, T: Tree<S>, S: 's, W: DemangleWrite, B: Below<'s, T, 
         tree) (lent_scope T.tree scope.entry) choice_3_if choice_3_yes choice_3_no }
 {
     if condition_1(below, tree, ctx) {
-        part(below, tree, 0, scope, ctx);
+        name_part(below, tree, 0, scope, ctx);
     }
 }
 
@@ -174,7 +174,7 @@ pub(crate) fn choice_4<'s, T: Tree<S>, S: 's, W: DemangleWrite, B: Below<'s, T, 
 {
     if is_there(below, tree, 1) {
         ctx.space();
-        part(below, tree, 1, scope, ctx);
+        name_part(below, tree, 1, scope, ctx);
     }
 }
 
@@ -190,7 +190,7 @@ pub(crate) fn choice_5<'s, T: Tree<S>, S: 's, W: DemangleWrite, B: Below<'s, T, 
         tree) (lent_scope T.tree scope.entry) choice_5_if choice_5_yes choice_5_no }
 {
     if is_there(below, tree, 0) {
-        part(below, tree, 0, scope, ctx);
+        name_part(below, tree, 0, scope, ctx);
         ctx.text("::");
     }
 }
@@ -208,7 +208,7 @@ pub(crate) fn choice_6<'s, T: Tree<S>, S: 's, W: DemangleWrite, B: Below<'s, T, 
 {
     if is_there(below, tree, 1) {
         ctx.text("::");
-        part(below, tree, 1, scope, ctx);
+        name_part(below, tree, 1, scope, ctx);
     } else {
         ctx.text("::string literal");
     }
@@ -229,13 +229,13 @@ pub(crate) fn choice_8<'s, T: Tree<S>, S: 's, W: DemangleWrite, B: Below<'s, T, 
         ctx.turn(PrintFlag::NestedPrefix, false);
         let told = ctx.begin_node(DemangleNodeType::NestedName);
         let items = ctx.fence();
-        part(below, tree, 0, scope, ctx);
+        name_part(below, tree, 0, scope, ctx);
         ctx.unfence(items);
         ctx.end_node(told);
     } else {
         let told = ctx.begin_node(DemangleNodeType::Prefix);
         let items = ctx.fence();
-        part(below, tree, 0, scope, ctx);
+        name_part(below, tree, 0, scope, ctx);
         ctx.unfence(items);
         ctx.end_node(told);
     }
@@ -256,7 +256,7 @@ pub(crate) fn choice_7<'s, T: Tree<S>, S: 's, W: DemangleWrite, B: Below<'s, T, 
         ctx.turn(PrintFlag::TemplatePrefix, false);
         let told = ctx.begin_node(DemangleNodeType::TemplatePrefix);
         let items = ctx.fence();
-        part(below, tree, 0, scope, ctx);
+        name_part(below, tree, 0, scope, ctx);
         ctx.unfence(items);
         ctx.end_node(told);
     } else {
@@ -279,17 +279,17 @@ pub(crate) fn choice_10<'s, T: Tree<S>, S: 's, W: DemangleWrite, B: Below<'s, T,
         ctx.turn(PrintFlag::NestedPrefix, false);
         let told = ctx.begin_node(DemangleNodeType::NestedName);
         let items = ctx.fence();
-        part(below, tree, 0, scope, ctx);
+        name_part(below, tree, 0, scope, ctx);
         ctx.text("::");
-        part(below, tree, 1, scope, ctx);
+        name_part(below, tree, 1, scope, ctx);
         ctx.unfence(items);
         ctx.end_node(told);
     } else {
         let told = ctx.begin_node(DemangleNodeType::Prefix);
         let items = ctx.fence();
-        part(below, tree, 0, scope, ctx);
+        name_part(below, tree, 0, scope, ctx);
         ctx.text("::");
-        part(below, tree, 1, scope, ctx);
+        name_part(below, tree, 1, scope, ctx);
         ctx.unfence(items);
         ctx.end_node(told);
     }
@@ -310,9 +310,9 @@ pub(crate) fn choice_9<'s, T: Tree<S>, S: 's, W: DemangleWrite, B: Below<'s, T, 
         ctx.turn(PrintFlag::TemplatePrefix, false);
         let told = ctx.begin_node(DemangleNodeType::TemplatePrefix);
         let items = ctx.fence();
-        part(below, tree, 0, scope, ctx);
+        name_part(below, tree, 0, scope, ctx);
         ctx.text("::");
-        part(below, tree, 1, scope, ctx);
+        name_part(below, tree, 1, scope, ctx);
         ctx.unfence(items);
         ctx.end_node(told);
     } else {
@@ -336,18 +336,18 @@ pub(crate) fn choice_12<'s, T: Tree<S>, S: 's, W: DemangleWrite, B: Below<'s, T,
         let told = ctx.begin_node(DemangleNodeType::NestedName);
         let items = ctx.fence();
         ctx.turn(PrintFlag::TemplatePrefix, true);
-        part(below, tree, 0, scope, ctx);
+        name_part(below, tree, 0, scope, ctx);
         ctx.turn(PrintFlag::TemplatePrefix, false);
-        part(below, tree, 1, scope, ctx);
+        name_part(below, tree, 1, scope, ctx);
         ctx.unfence(items);
         ctx.end_node(told);
     } else {
         let told = ctx.begin_node(DemangleNodeType::Prefix);
         let items = ctx.fence();
         ctx.turn(PrintFlag::TemplatePrefix, true);
-        part(below, tree, 0, scope, ctx);
+        name_part(below, tree, 0, scope, ctx);
         ctx.turn(PrintFlag::TemplatePrefix, false);
-        part(below, tree, 1, scope, ctx);
+        name_part(below, tree, 1, scope, ctx);
         ctx.unfence(items);
         ctx.end_node(told);
     }
@@ -369,9 +369,9 @@ pub(crate) fn choice_11<'s, T: Tree<S>, S: 's, W: DemangleWrite, B: Below<'s, T,
         let told = ctx.begin_node(DemangleNodeType::TemplatePrefix);
         let items = ctx.fence();
         ctx.turn(PrintFlag::TemplatePrefix, true);
-        part(below, tree, 0, scope, ctx);
+        name_part(below, tree, 0, scope, ctx);
         ctx.turn(PrintFlag::TemplatePrefix, false);
-        part(below, tree, 1, scope, ctx);
+        name_part(below, tree, 1, scope, ctx);
         ctx.unfence(items);
         ctx.end_node(told);
     } else {

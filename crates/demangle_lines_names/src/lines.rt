@@ -12,7 +12,7 @@ use crate::choices::{
 };
 use demangle_context::{Context, DemangleNodeType, DemangleWrite, PrintFlag};
 use demangle_lines::{
-    Below, Scope, Tree, inner_ordinal, leaf, list, need_leaf, part, part_at, spelled, suffix,
+    Below, Scope, Tree, inner_ordinal, leaf, list, name_part, need_leaf, part_at, spelled, suffix,
     taken, with_these, with_type_arguments,
 };
 
@@ -28,7 +28,7 @@ pub fn mangled_name_encoding<'s, T: Tree<S>, S: 's, W: DemangleWrite, B: Below<'
     ensures { Runs (B.at below) (page T.tree T.table W.seen ctx.old) (page T.tree T.table W.seen ctx.new) (T.tree
         tree) (lent_scope T.tree scope.entry) (line_steps Tag.MangledNameEncoding) }
 {
-    part(below, tree, 0, scope, ctx);
+    name_part(below, tree, 0, scope, ctx);
     choice_1(below, tree, scope, ctx);
 }
 
@@ -45,7 +45,7 @@ pub fn mangled_name_block_invoke<'s, T: Tree<S>, S: 's, W: DemangleWrite, B: Bel
         tree) (lent_scope T.tree scope.entry) (line_steps Tag.MangledNameBlockInvoke) }
 {
     ctx.text("invocation function for block in ");
-    part(below, tree, 0, scope, ctx);
+    name_part(below, tree, 0, scope, ctx);
 }
 
 /// The line of `CloneSuffix`: what a compiler appends to the name of a copy of a function: a word and numbers, `
@@ -61,7 +61,7 @@ pub fn clone_suffix<'s, T: Tree<S>, S: 's, W: DemangleWrite, B: Below<'s, T, S, 
         tree) (lent_scope T.tree scope.entry) (line_steps Tag.CloneSuffix) }
 {
     ctx.text(" [clone");
-    part(below, tree, 0, scope, ctx);
+    name_part(below, tree, 0, scope, ctx);
     each_2(below, part_at(below, tree, 1), scope, ctx);
     ctx.text("]");
 }
@@ -96,7 +96,7 @@ pub fn global_ctor_dtor_ctor<'s, T: Tree<S>, S: 's, W: DemangleWrite, B: Below<'
     let before = ctx.is_on(PrintFlag::Params);
     ctx.turn(PrintFlag::Params, true);
     ctx.text("global constructors keyed to ");
-    part(below, tree, 0, scope, ctx);
+    name_part(below, tree, 0, scope, ctx);
     ctx.turn(PrintFlag::Params, before);
     ctx.unfence(items);
 }
@@ -116,7 +116,7 @@ pub fn global_ctor_dtor_dtor<'s, T: Tree<S>, S: 's, W: DemangleWrite, B: Below<'
     let before = ctx.is_on(PrintFlag::Params);
     ctx.turn(PrintFlag::Params, true);
     ctx.text("global destructors keyed to ");
-    part(below, tree, 0, scope, ctx);
+    name_part(below, tree, 0, scope, ctx);
     ctx.turn(PrintFlag::Params, before);
     ctx.unfence(items);
 }
@@ -133,8 +133,8 @@ pub fn name_unscoped_template<'s, T: Tree<S>, S: 's, W: DemangleWrite, B: Below<
         tree) (lent_scope T.tree scope.entry) (line_steps Tag.NameUnscopedTemplate) }
 {
     let inner = with_these(below, tree, 1, scope);
-    part(below, tree, 0, Some(&inner), ctx);
-    part(below, tree, 1, scope, ctx);
+    name_part(below, tree, 0, Some(&inner), ctx);
+    name_part(below, tree, 1, scope, ctx);
 }
 
 /// The line of `UnscopedNameStd`: `std::foo`: `St3foo`. ABI section 5.1.2.
@@ -149,7 +149,7 @@ pub fn unscoped_name_std<'s, T: Tree<S>, S: 's, W: DemangleWrite, B: Below<'s, T
         tree) (lent_scope T.tree scope.entry) (line_steps Tag.UnscopedNameStd) }
 {
     ctx.text("std::");
-    part(below, tree, 0, scope, ctx);
+    name_part(below, tree, 0, scope, ctx);
 }
 
 /// The line of `NestedNameUnqualified`: `A::f`: `N1A1fE`; of a member function that is `const`: `NK1A1fE`. ABI
@@ -167,7 +167,7 @@ pub fn nested_name_unqualified<'s, T: Tree<S>, S: 's, W: DemangleWrite, B: Below
     let items = ctx.fence();
     let told = ctx.begin_node(DemangleNodeType::NestedName);
     choice_2(below, tree, scope, ctx);
-    part(below, tree, 3, scope, ctx);
+    name_part(below, tree, 3, scope, ctx);
     ctx.end_node(told);
     ctx.unfence(items);
     taken(below, scope, ctx);
@@ -188,7 +188,7 @@ pub fn nested_name_template<'s, T: Tree<S>, S: 's, W: DemangleWrite, B: Below<'s
 {
     ctx.turn(PrintFlag::NestedPrefix, true);
     let items = ctx.fence();
-    part(below, tree, 2, scope, ctx);
+    name_part(below, tree, 2, scope, ctx);
     ctx.unfence(items);
     ctx.turn(PrintFlag::NestedPrefix, false);
     taken(below, scope, ctx);
@@ -211,7 +211,7 @@ pub fn nested_name_unqualified_explicit_object<
     let items = ctx.fence();
     let told = ctx.begin_node(DemangleNodeType::NestedName);
     choice_5(below, tree, scope, ctx);
-    part(below, tree, 1, scope, ctx);
+    name_part(below, tree, 1, scope, ctx);
     ctx.end_node(told);
     ctx.unfence(items);
     ctx.turn(PrintFlag::Object, true);
@@ -232,7 +232,7 @@ pub fn nested_name_template_explicit_object<
 {
     ctx.turn(PrintFlag::NestedPrefix, true);
     let items = ctx.fence();
-    part(below, tree, 0, scope, ctx);
+    name_part(below, tree, 0, scope, ctx);
     ctx.unfence(items);
     ctx.turn(PrintFlag::NestedPrefix, false);
     ctx.turn(PrintFlag::Object, true);
@@ -252,7 +252,7 @@ pub fn local_name_relative<'s, T: Tree<S>, S: 's, W: DemangleWrite, B: Below<'s,
 {
     let before = ctx.is_on(PrintFlag::Params);
     ctx.turn(PrintFlag::Params, true);
-    part(below, tree, 0, scope, ctx);
+    name_part(below, tree, 0, scope, ctx);
     choice_6(below, tree, scope, ctx);
     ctx.turn(PrintFlag::Params, before);
 }
@@ -271,7 +271,7 @@ pub fn local_name_default<'s, T: Tree<S>, S: 's, W: DemangleWrite, B: Below<'s, 
 {
     let before = ctx.is_on(PrintFlag::Params);
     ctx.turn(PrintFlag::Params, true);
-    part(below, tree, 0, scope, ctx);
+    name_part(below, tree, 0, scope, ctx);
     ctx.turn(PrintFlag::Params, before);
 }
 
@@ -329,7 +329,7 @@ pub fn data_member_prefix<'s, T: Tree<S>, S: 's, W: DemangleWrite, B: Below<'s, 
         tree) (lent_scope T.tree scope.entry) (line_steps Tag.DataMemberPrefix) }
 {
     let told = ctx.begin_node(DemangleNodeType::DataMemberPrefix);
-    part(below, tree, 0, scope, ctx);
+    name_part(below, tree, 0, scope, ctx);
     ctx.end_node(told);
 }
 
@@ -346,8 +346,8 @@ pub fn unqualified_name_operator<'s, T: Tree<S>, S: 's, W: DemangleWrite, B: Bel
 {
     let told = ctx.begin_node(DemangleNodeType::UnqualifiedName);
     ctx.text("operator");
-    part(below, tree, 0, scope, ctx);
-    part(below, tree, 1, scope, ctx);
+    name_part(below, tree, 0, scope, ctx);
+    name_part(below, tree, 1, scope, ctx);
     ctx.end_node(told);
 }
 
@@ -363,8 +363,8 @@ pub fn unqualified_name_ctor_dtor<'s, T: Tree<S>, S: 's, W: DemangleWrite, B: Be
         tree) (lent_scope T.tree scope.entry) (line_steps Tag.UnqualifiedNameCtorDtor) }
 {
     let told = ctx.begin_node(DemangleNodeType::UnqualifiedName);
-    part(below, tree, 0, scope, ctx);
-    part(below, tree, 1, scope, ctx);
+    name_part(below, tree, 0, scope, ctx);
+    name_part(below, tree, 1, scope, ctx);
     ctx.end_node(told);
 }
 
@@ -382,8 +382,8 @@ pub fn unqualified_name_local_source_name<
         tree) (lent_scope T.tree scope.entry) (line_steps Tag.UnqualifiedNameLocalSourceName) }
 {
     let told = ctx.begin_node(DemangleNodeType::UnqualifiedName);
-    part(below, tree, 0, scope, ctx);
-    part(below, tree, 2, scope, ctx);
+    name_part(below, tree, 0, scope, ctx);
+    name_part(below, tree, 2, scope, ctx);
     ctx.end_node(told);
 }
 
@@ -414,7 +414,7 @@ pub fn abi_tag<'s, T: Tree<S>, S: 's, W: DemangleWrite, B: Below<'s, T, S, W>>(
         tree) (lent_scope T.tree scope.entry) (line_steps Tag.AbiTag) }
 {
     ctx.text("[abi:");
-    part(below, tree, 0, scope, ctx);
+    name_part(below, tree, 0, scope, ctx);
     ctx.text("]");
 }
 
@@ -461,7 +461,7 @@ pub fn closure_type_name<'s, T: Tree<S>, S: 's, W: DemangleWrite, B: Below<'s, T
         tree) (lent_scope T.tree scope.entry) (line_steps Tag.ClosureTypeName) }
 {
     ctx.text("{lambda(");
-    part(below, tree, 0, scope, ctx);
+    name_part(below, tree, 0, scope, ctx);
     ctx.text(")#");
     inner_ordinal(below, tree, 1, 0, 1, 2, ctx);
     ctx.text("}");
@@ -495,7 +495,7 @@ pub fn operator_name_simple<'s, T: Tree<S>, S: 's, W: DemangleWrite, B: Below<'s
         tree) (lent_scope T.tree scope.entry) (line_steps Tag.OperatorNameSimple) }
 {
     choice_14(below, tree, scope, ctx);
-    part(below, tree, 0, scope, ctx);
+    name_part(below, tree, 0, scope, ctx);
 }
 
 /// The line of `OperatorNameCast`: a cast in an expression. ABI section 5.1.3.
@@ -512,7 +512,7 @@ pub fn operator_name_cast<'s, T: Tree<S>, S: 's, W: DemangleWrite, B: Below<'s, 
     let items = ctx.fence();
     ctx.space();
     let inner = with_type_arguments(below, tree, 0, scope);
-    part(below, tree, 0, Some(&inner), ctx);
+    name_part(below, tree, 0, Some(&inner), ctx);
     ctx.unfence(items);
 }
 
@@ -527,7 +527,7 @@ pub fn operator_name_literal<'s, T: Tree<S>, S: 's, W: DemangleWrite, B: Below<'
     ensures { Runs (B.at below) (page T.tree T.table W.seen ctx.old) (page T.tree T.table W.seen ctx.new) (T.tree
         tree) (lent_scope T.tree scope.entry) (line_steps Tag.OperatorNameLiteral) }
 {
-    part(below, tree, 0, scope, ctx);
+    name_part(below, tree, 0, scope, ctx);
     ctx.text("::operator \"\"");
 }
 
@@ -544,7 +544,7 @@ pub fn operator_name_vendor_extension<
     ensures { Runs (B.at below) (page T.tree T.table W.seen ctx.old) (page T.tree T.table W.seen ctx.new) (T.tree
         tree) (lent_scope T.tree scope.entry) (line_steps Tag.OperatorNameVendorExtension) }
 {
-    part(below, tree, 1, scope, ctx);
+    name_part(below, tree, 1, scope, ctx);
     ctx.text("::operator ");
     spelled(below, tree, 0, ctx);
 }

@@ -1,7 +1,8 @@
 //! The line of any node.
 
-ghost use Rattle.std.specs.Prelude.{◌≡◌};
+ghost use Rattle.std.specs.Prelude.{◌≡◌, ◌∷◌, [], true};
 ghost use Rattle.demangle_printing.specs.Lines.{line_steps};
+ghost use Rattle.demangle_printing.specs.Step.{Step};
 ghost use Rattle.demangle_context.specs.PageOf.{page};
 ghost use Rattle.demangle_lines.specs.Does.{Runs};
 ghost use Rattle.demangle_lines.specs.ScopeOf.{lent_scope};
@@ -22,9 +23,76 @@ use crate::blocks_11::block_11;
 use crate::blocks_12::block_12;
 use crate::blocks_13::block_13;
 use demangle_context::{Context, DemangleWrite};
-use demangle_lines::{Below, Scope, Tree};
+use demangle_lines::{Below, Scope, Tree, first_part};
+
+/// Whether the line of a node whose tag has this number is that of its first part.
+#[inline(always)]
+fn is_first_part(number: u8) -> bool
+    ensures { result ≡ true → line_steps (tag_at number) ≡ Step.line (0 ∷ []) Step.done }
+{
+    if number < 100 {
+        is_lower_first_part(number)
+    } else {
+        is_upper_first_part(number)
+    }
+}
+
+/// The same of some of the numbers.
+#[inline(always)]
+fn is_lower_first_part(number: u8) -> bool
+    ensures { result ≡ true → line_steps (tag_at number) ≡ Step.line (0 ∷ []) Step.done }
+{
+    match number {
+        12 => true,
+        23 => true,
+        27 => true,
+        28 => true,
+        29 => true,
+        60 => true,
+        62 => true,
+        69 => true,
+        70 => true,
+        76 => true,
+        77 => true,
+        79 => true,
+        81 => true,
+        82 => true,
+        83 => true,
+        _ => false,
+    }
+}
+
+/// The same of some of the numbers.
+#[inline(always)]
+fn is_upper_first_part(number: u8) -> bool
+    ensures { result ≡ true → line_steps (tag_at number) ≡ Step.line (0 ∷ []) Step.done }
+{
+    match number {
+        116 => true,
+        117 => true,
+        118 => true,
+        126 => true,
+        129 => true,
+        130 => true,
+        131 => true,
+        136 => true,
+        138 => true,
+        140 => true,
+        180 => true,
+        187 => true,
+        188 => true,
+        189 => true,
+        190 => true,
+        191 => true,
+        192 => true,
+        194 => true,
+        204 => true,
+        _ => false,
+    }
+}
 
 /// The line of a node whose tag has this number, its level entered.
+#[inline(always)]
 pub fn line_by_tag<'s, T: Tree<S>, S: 's, W: DemangleWrite, B: Below<'s, T, S, W>>(
     below: B,
     number: u8,
@@ -36,6 +104,10 @@ pub fn line_by_tag<'s, T: Tree<S>, S: 's, W: DemangleWrite, B: Below<'s, T, S, W
     ensures { Runs (B.at below) (page T.tree T.table W.seen ctx.old) (page T.tree T.table W.seen ctx.new) (T.tree
         tree) (lent_scope T.tree scope.entry) (line_steps (tag_at number)) }
 {
+    if is_first_part(number) {
+        first_part(below, tree, scope, ctx);
+        return;
+    }
     if number >= 211 {
         return;
     }

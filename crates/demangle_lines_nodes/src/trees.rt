@@ -12,6 +12,7 @@ use demangle_context::{Context, DemangleWrite};
 use demangle_lines::{Below, Scope, Shape, Tree, shape_at, spelled_itself};
 
 /// The line of a tree, its level entered.
+#[inline(always)]
 pub fn tree_line<'s, T: Tree<S>, S: 's, W: DemangleWrite, B: Below<'s, T, S, W>>(
     below: B,
     tree: T,

@@ -3,14 +3,12 @@ use Rattle.std.proofs.Common.{◌≡◌, ℕ, ◌-◌, ◌<◌, refl, subst}
 use Rattle.demangle_meets.specs.Page.{Fixed}
 use Rattle.demangle_meets.specs.Place.{Refers}
 use Rattle.demangle_context.specs.View.{View}
-use Rattle.demangle_lines.specs.PlaceAt.{place_at}
-use Rattle.demangle_lines.specs.declared.level.Level.{Level}
 use Rattle.demangle_lines_tied.specs.PlaceOf.{place_in}
 
 -- the place of a context, by its level and its limit
-pub begins_at : (r : Refers) (f : Fixed) (l : Level) {level limit : ℕ} → r ≡ f.refers → level ≡ f.level →
-    limit ≡ f.limit → l ≡ record { level = level; deepest = limit - 1 } → place_at r l ≡ place_in f
-begins_at r f l e g h i = rw (i, e, g, h) refl
+pub begins_at : (r : Refers) (f : Fixed) {level deepest : ℕ} → r ≡ f.refers → level ≡ f.level →
+    deepest ≡ f.limit - 1 → record { refers = r; left = deepest - level; level = level } ≡ place_in f
+begins_at r f e g h = rw (e, g, h) refl
 
 -- a level is left
 pub is_below : {S : Type 0} {u v : View S} (level : ℕ) → level ≡ u.items.level → level < u.items.limit → u ≡ v →

@@ -59,7 +59,7 @@ where
         (place_of T.table s.depth).left };
 
     fn level(self) -> u32 {
-        self.depth.level.level()
+        self.depth.level
     }
 
     fn subs(self) -> &'s S {

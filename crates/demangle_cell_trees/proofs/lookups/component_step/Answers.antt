@@ -5,17 +5,18 @@ use Rattle.demangle_cell_trees.proofs.lookups.component_step.Goals as goal
 
 pub returns-in-LeafName : goal.returns-in-LeafName
 returns-in-LeafName c =
-    c.step_of.ensures ∙ leaf_whole c.args.sought (tree_at c.args.arena.now c.args.id) c.in-LeafName.is
+    c.node_step.ensures ∙ leaf_whole c.args.sought (tree_at c.args.arena.now c.args.id) c.in-LeafName.is
 
 pub returns-in-Special : goal.returns-in-Special
 returns-in-Special c =
-    c.step_of-in-Special.ensures ∙ special_whole c.args.sought (tree_at c.args.arena.now c.args.id) c.in-Special.is
+    c.node_step-in-Special.ensures
+    ∙ special_whole c.args.sought (tree_at c.args.arena.now c.args.id) c.in-Special.is
 
 pub returns-in-PrefixArguments : goal.returns-in-PrefixArguments
 returns-in-PrefixArguments c =
-    c.arguments_at.ensures ∙ prefix_partly c.args.sought c.args.arena.now c.args.id c.in-PrefixArguments.is
+    c.arguments_step.ensures ∙ prefix_partly c.args.sought c.args.arena.now c.args.id c.in-PrefixArguments.is
 
 pub returns-in-TypeArguments : goal.returns-in-TypeArguments
 returns-in-TypeArguments c =
-    c.arguments_at-in-TypeArguments.ensures
+    c.arguments_step-in-TypeArguments.ensures
     ∙ type_partly c.args.sought c.args.arena.now c.args.id c.in-TypeArguments.is

@@ -1,47 +1,61 @@
-use Rattle.std.proofs.Common.{◌≡◌, ◌∙◌, sym, ap, ℕ, Option}
-use Rattle.std.specs.Prelude.{option_map}
-use Rattle.demangle_core.specs.Core.{Core}
-use Rattle.demangle_printing.specs.World.{nth}
-use Rattle.demangle_cells.specs.Cells.{tree}
+use Rattle.std.proofs.Common.{◌∙◌, refl, sym}
 use Rattle.demangle_cells.specs.View.{view}
-use Rattle.demangle_cells.specs.declared.arena.Arena.{Arena}
-use Rattle.demangle_cells.specs.declared.cell.Cell.{Cell}
-use Rattle.demangle_cell_trees.specs.ArenaTrees.{IsCell, tree_at}
-use Rattle.demangle_cell_trees.specs.NodeTrees.{node_tree}
-use Rattle.demangle_cell_trees.specs.Own.{parts_in}
-use Rattle.demangle_cell_trees.proofs.Looks.{own_parts_are, single}
-use Rattle.demangle_cell_trees.proofs.Steps.{part_is, choice_is, nothing_is, each_smaller}
+use Rattle.demangle_printing.specs.World.{nth}
+use Rattle.demangle_cell_trees.specs.ArenaTrees.{tree_at}
+use Rattle.demangle_cell_trees.specs.Own.{row_of}
+use Rattle.demangle_cell_trees.specs.declared.roles.Role.TheVariants as of_role
+use Rattle.demangle_cell_trees.proofs.Ways.{answer_turns, node_choice, node_itself, node_nothing, node_part}
+use Rattle.demangle_cell_trees.proofs.Ways.{node_smaller, none_turns, own_plain}
 use Rattle.demangle_cell_trees.proofs.turns.node_turn.Goals as goal
 
-own : (a : Arena) (k : ℕ) (c : Cell) (n : ℕ) (o : Option Core) → IsCell a k c
-    → o ≡ nth n (parts_in (tree (tree_at a) (view a).list c)) → o ≡ nth n (parts_in (tree_at a k))
-own a k c n o e h = h ∙ ap (nth n) (sym (own_parts_are a k c e))
+pub returns-in-Itself : goal.returns-in-Itself
+returns-in-Itself c =
+    answer_turns c.args.sought c.args.arena.now c.args.id c.ranges.id.fits
+    (node_itself c.args.sought c.args.arena.now c.args.id c.args.cell c.args.tag c.requires.cell c.requires.tag
+    (sym c.role_in.ensures ∙ c.in-Itself.is))
 
-pub returns-in-Part : goal.returns-in-Part
-returns-in-Part c =
-    let x : Core = tree_at c.args.arena.now c.args.id in
-    let o : Option Core = option_map node_tree c.own_part.result in
-    let e : o ≡ nth c.in-Part.number (parts_in x) =
-    own c.args.arena.now c.args.id c.args.cell c.in-Part.number o c.requires.cell c.own_part.ensures in
-    c.into.ensures c.args.sought x
-    (part_is c.args.sought c.args.tag x (single c.args.arena.now c.args.id) c.requires.tag c.in-Part.number o
-    (sym c.in-Part.ensures) e) (each_smaller c.in-Part.number x o e)
+pub returns-in-First : goal.returns-in-First
+returns-in-First c =
+    c.into.ensures c.args.sought c.args.arena.now (tree_at c.args.arena.now c.args.id)
+    (nth 0 (row_of (view c.args.arena.now).list c.args.cell)) c.index_in.ensures
+    (node_part c.args.sought c.args.arena.now c.args.id c.args.cell c.args.tag c.requires.cell c.requires.tag
+    of_role.First 0 (sym c.role_in.ensures ∙ c.in-First.is) (λ steps. refl))
+    (node_smaller c.args.sought c.args.arena.now c.args.id c.args.cell c.args.tag c.requires.cell c.requires.tag 0)
 
-pub returns-in-Choice : goal.returns-in-Choice
-returns-in-Choice c =
-    let x : Core = tree_at c.args.arena.now c.args.id in
-    let o : Option Core = option_map node_tree c.own_part-in-Choice.result in
-    let p : Option Core = option_map node_tree c.own_part-second_part.result in
-    let e : o ≡ nth c.in-Choice.first (parts_in x) =
-    own c.args.arena.now c.args.id c.args.cell c.in-Choice.first o c.requires.cell c.own_part-in-Choice.ensures in
-    let f : p ≡ nth c.in-Choice.second (parts_in x) =
-    own c.args.arena.now c.args.id c.args.cell c.in-Choice.second p c.requires.cell
-    c.own_part-second_part.ensures in
-    c.either.ensures c.args.sought x
-    (choice_is c.args.sought c.args.tag x (single c.args.arena.now c.args.id) c.requires.tag c.in-Choice.first
-    c.in-Choice.second o p (sym c.in-Choice.ensures) e f)
+pub returns-in-Second : goal.returns-in-Second
+returns-in-Second c =
+    c.into-in-Second.ensures c.args.sought c.args.arena.now (tree_at c.args.arena.now c.args.id)
+    (nth 1 (row_of (view c.args.arena.now).list c.args.cell)) c.index_in-in-Second.ensures
+    (node_part c.args.sought c.args.arena.now c.args.id c.args.cell c.args.tag c.requires.cell c.requires.tag
+    of_role.Second 1 (sym c.role_in.ensures ∙ c.in-Second.is) (λ steps. refl))
+    (node_smaller c.args.sought c.args.arena.now c.args.id c.args.cell c.args.tag c.requires.cell c.requires.tag 1)
+
+pub returns-in-Third : goal.returns-in-Third
+returns-in-Third c =
+    c.into-in-Third.ensures c.args.sought c.args.arena.now (tree_at c.args.arena.now c.args.id)
+    (nth 2 (row_of (view c.args.arena.now).list c.args.cell)) c.index_in-in-Third.ensures
+    (node_part c.args.sought c.args.arena.now c.args.id c.args.cell c.args.tag c.requires.cell c.requires.tag
+    of_role.Third 2 (sym c.role_in.ensures ∙ c.in-Third.is) (λ steps. refl))
+    (node_smaller c.args.sought c.args.arena.now c.args.id c.args.cell c.args.tag c.requires.cell c.requires.tag 2)
+
+pub returns-in-SecondElseFirst : goal.returns-in-SecondElseFirst
+returns-in-SecondElseFirst c =
+    c.either.ensures c.args.sought c.args.arena.now (tree_at c.args.arena.now c.args.id)
+    (nth 1 (row_of (view c.args.arena.now).list c.args.cell)) c.index_in-in-SecondElseFirst.ensures
+    (own_plain c.args.sought c.args.arena.now c.args.id c.args.cell c.args.tag c.requires.cell c.requires.tag)
+    (node_choice c.args.sought c.args.arena.now c.args.id c.args.cell c.args.tag c.requires.cell c.requires.tag
+    of_role.SecondElseFirst 1 0 (sym c.role_in.ensures ∙ c.in-SecondElseFirst.is) (λ steps. refl))
+
+pub returns-in-FourthElseThird : goal.returns-in-FourthElseThird
+returns-in-FourthElseThird c =
+    c.either-in-FourthElseThird.ensures c.args.sought c.args.arena.now (tree_at c.args.arena.now c.args.id)
+    (nth 3 (row_of (view c.args.arena.now).list c.args.cell)) c.index_in-in-FourthElseThird.ensures
+    (own_plain c.args.sought c.args.arena.now c.args.id c.args.cell c.args.tag c.requires.cell c.requires.tag)
+    (node_choice c.args.sought c.args.arena.now c.args.id c.args.cell c.args.tag c.requires.cell c.requires.tag
+    of_role.FourthElseThird 3 2 (sym c.role_in.ensures ∙ c.in-FourthElseThird.is) (λ steps. refl))
 
 pub returns-in-Nothing : goal.returns-in-Nothing
 returns-in-Nothing c =
-    nothing_is c.args.sought c.args.tag (tree_at c.args.arena.now c.args.id) (single c.args.arena.now c.args.id)
-    c.requires.tag (sym c.in-Nothing.ensures)
+    none_turns c.args.sought c.args.arena.now (tree_at c.args.arena.now c.args.id)
+    (node_nothing c.args.sought c.args.arena.now c.args.id c.args.cell c.args.tag c.requires.cell c.requires.tag
+    (sym c.role_in.ensures ∙ c.in-Nothing.is))

@@ -4,7 +4,7 @@ use Rattle.demangle_lines_names.proofs.choices.choice_6.Goals as goal
 
 pub returns-then-is_there : goal.returns-then-is_there
 returns-then-is_there g c = chooses_yes (always c.is_there.ensures) c.if-is_there.true (meets_text c.text.ensures
-    (meets_block c.part.ensures meets_done))
+    (meets_block c.name_part.ensures meets_done))
 
 pub returns-else-is_there : goal.returns-else-is_there
 returns-else-is_there g c = chooses_no (always c.is_there.ensures) c.if-is_there.false (meets_text

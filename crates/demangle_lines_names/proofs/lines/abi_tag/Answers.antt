@@ -5,6 +5,6 @@ use Rattle.demangle_lines_names.proofs.lines.abi_tag.Goals as goal
 pub returns : goal.returns
 unfolding line_steps
 returns g c = record {
-  meets = meets_text c.text.ensures (meets_block c.part.ensures (meets_text c.text-2.ensures
+  meets = meets_text c.text.ensures (meets_block c.name_part.ensures (meets_text c.text-2.ensures
       meets_done));
 }

@@ -11,7 +11,7 @@ use Rattle.demangle_lines_names.proofs.lines.clone_suffix.Goals as goal
 pub returns : goal.returns
 unfolding line_steps
 returns g c = record {
-  meets = meets_text c.text.ensures (meets_block c.part.ensures (meets_found (λ y. each_of
+  meets = meets_text c.text.ensures (meets_block c.name_part.ensures (meets_found (λ y. each_of
       (world_of (g.B.Below.at c.args.below).refers) each_2_steps (listed (world_of (g.B.Below.at c.args.below).refers)
       y) (lent_scope g.T.InnerNode.tree c.args.scope)) c.part_at.ensures c.each_2.ensures (meets_text c.text-2.ensures
       meets_done)));

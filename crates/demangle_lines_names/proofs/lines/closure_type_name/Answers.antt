@@ -5,6 +5,6 @@ use Rattle.demangle_lines_names.proofs.lines.closure_type_name.Goals as goal
 pub returns : goal.returns
 unfolding line_steps
 returns g c = record {
-  meets = meets_text c.text.ensures (meets_block c.part.ensures (meets_text c.text-2.ensures
+  meets = meets_text c.text.ensures (meets_block c.name_part.ensures (meets_text c.text-2.ensures
       (meets_text c.inner_ordinal.ensures (meets_text c.text-3.ensures meets_done))));
 }

@@ -8,6 +8,6 @@ pub returns : goal.returns
 unfolding line_steps
 returns g c = record {
   meets = meets_fence c.fence-items.ensures (meets_params c.is_on-before.ensures c.turn.ensures
-      (meets_text c.text.ensures (meets_block c.part.ensures meets_done)) c.turn-2.ensures meets_done) c.unfence.ensures
-      meets_done;
+      (meets_text c.text.ensures (meets_block c.name_part.ensures meets_done)) c.turn-2.ensures meets_done)
+      c.unfence.ensures meets_done;
 }

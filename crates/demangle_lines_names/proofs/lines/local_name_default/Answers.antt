@@ -6,6 +6,6 @@ use Rattle.demangle_lines_names.proofs.lines.local_name_default.Goals as goal
 pub returns : goal.returns
 unfolding line_steps
 returns g c = record {
-  meets = meets_params c.is_on-before.ensures c.turn.ensures (meets_block c.part.ensures
+  meets = meets_params c.is_on-before.ensures c.turn.ensures (meets_block c.name_part.ensures
       meets_done) c.turn-2.ensures meets_done;
 }

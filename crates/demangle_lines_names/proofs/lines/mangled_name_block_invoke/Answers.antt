@@ -4,4 +4,4 @@ use Rattle.demangle_lines_names.proofs.lines.mangled_name_block_invoke.Goals as 
 
 pub returns : goal.returns
 unfolding line_steps
-returns g c = record { meets = meets_text c.text.ensures (meets_block c.part.ensures meets_done) }
+returns g c = record { meets = meets_text c.text.ensures (meets_block c.name_part.ensures meets_done) }

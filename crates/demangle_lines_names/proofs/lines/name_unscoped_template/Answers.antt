@@ -12,5 +12,5 @@ unfolding line_steps
 returns g c = record {
   meets = meets_found (λ s. run (world_of (g.B.Below.at c.args.below).refers) (Some
       (g.T.InnerNode.tree c.args.tree)) s (Step.line (0 ∷ []) Step.done)) c.with_these-inner.ensures (meets_block
-      c.part.ensures meets_done) (meets_block c.part-2.ensures meets_done);
+      c.name_part.ensures meets_done) (meets_block c.name_part-2.ensures meets_done);
 }

@@ -8,7 +8,7 @@ pub returns : goal.returns
 unfolding line_steps
 returns g c = record {
   meets = meets_block (meets_set c.turn.ensures (meets_fence c.fence-items.ensures (meets_block
-      c.part.ensures meets_done) c.unfence.ensures (meets_set c.turn-2.ensures meets_done))) (meets_rest
+      c.name_part.ensures meets_done) c.unfence.ensures (meets_set c.turn-2.ensures meets_done))) (meets_rest
       (c.taken.ensures.rest _) (meets_block (meets_rest (c.choice_3.ensures.rest _) (meets_rest (c.choice_4.ensures.rest
       _) meets_done)) meets_done));
 }

@@ -8,6 +8,6 @@ pub returns : goal.returns
 unfolding line_steps
 returns g c = record {
   meets = meets_block (meets_set c.turn.ensures (meets_fence c.fence-items.ensures (meets_block
-      c.part.ensures meets_done) c.unfence.ensures (meets_set c.turn-2.ensures meets_done))) (meets_set c.turn-3.ensures
-      (meets_rest (c.taken.ensures.rest _) meets_done));
+      c.name_part.ensures meets_done) c.unfence.ensures (meets_set c.turn-2.ensures meets_done))) (meets_set
+      c.turn-3.ensures (meets_rest (c.taken.ensures.rest _) meets_done));
 }

@@ -13,6 +13,6 @@ unfolding line_steps
 returns g c = record {
   meets = meets_fence c.fence-items.ensures (meets_space c.space.ensures (meets_found (λ s. run
       (world_of (g.B.Below.at c.args.below).refers) (Some (g.T.InnerNode.tree c.args.tree)) s (Step.line (0 ∷ [])
-      Step.done)) c.with_type_arguments-inner.ensures (meets_block c.part.ensures meets_done) meets_done))
+      Step.done)) c.with_type_arguments-inner.ensures (meets_block c.name_part.ensures meets_done) meets_done))
       c.unfence.ensures meets_done;
 }

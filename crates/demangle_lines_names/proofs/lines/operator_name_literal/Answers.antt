@@ -4,4 +4,4 @@ use Rattle.demangle_lines_names.proofs.lines.operator_name_literal.Goals as goal
 
 pub returns : goal.returns
 unfolding line_steps
-returns g c = record { meets = meets_block c.part.ensures (meets_text c.text.ensures meets_done) }
+returns g c = record { meets = meets_block c.name_part.ensures (meets_text c.text.ensures meets_done) }

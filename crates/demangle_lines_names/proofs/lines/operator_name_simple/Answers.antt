@@ -5,4 +5,4 @@ use Rattle.demangle_lines_names.proofs.lines.operator_name_simple.Goals as goal
 
 pub returns : goal.returns
 unfolding line_steps
-returns g c = record { meets = meets_rest (c.choice_14.ensures.rest _) (meets_block c.part.ensures meets_done) }
+returns g c = record { meets = meets_rest (c.choice_14.ensures.rest _) (meets_block c.name_part.ensures meets_done) }

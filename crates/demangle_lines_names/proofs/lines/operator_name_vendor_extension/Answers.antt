@@ -5,6 +5,6 @@ use Rattle.demangle_lines_names.proofs.lines.operator_name_vendor_extension.Goal
 pub returns : goal.returns
 unfolding line_steps
 returns g c = record {
-  meets = meets_block c.part.ensures (meets_text c.text.ensures (meets_block c.spelled.ensures
-      meets_done));
+  meets = meets_block c.name_part.ensures (meets_text c.text.ensures (meets_block
+      c.spelled.ensures meets_done));
 }

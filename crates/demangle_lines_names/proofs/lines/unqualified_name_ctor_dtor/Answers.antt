@@ -6,6 +6,6 @@ use Rattle.demangle_lines_names.proofs.lines.unqualified_name_ctor_dtor.Goals as
 pub returns : goal.returns
 unfolding line_steps
 returns g c = record {
-  meets = meets_event c.begin_node-told.ensures (meets_block c.part.ensures (meets_block
-      c.part-2.ensures meets_done)) c.end_node.ensures meets_done;
+  meets = meets_event c.begin_node-told.ensures (meets_block c.name_part.ensures (meets_block
+      c.name_part-2.ensures meets_done)) c.end_node.ensures meets_done;
 }

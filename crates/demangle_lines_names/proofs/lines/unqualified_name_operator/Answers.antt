@@ -7,5 +7,5 @@ pub returns : goal.returns
 unfolding line_steps
 returns g c = record {
   meets = meets_event c.begin_node-told.ensures (meets_text c.text.ensures (meets_block
-      c.part.ensures (meets_block c.part-2.ensures meets_done))) c.end_node.ensures meets_done;
+      c.name_part.ensures (meets_block c.name_part-2.ensures meets_done))) c.end_node.ensures meets_done;
 }

@@ -6,6 +6,10 @@ use Rattle.demangle_lines_nodes.specs.Tags.{tag_at}
 use Rattle.demangle_lines_nodes.proofs.Steps.{no_tag}
 use Rattle.demangle_lines_nodes.proofs.nodes.line_by_tag.Goals as goal
 
+pub returns-then-is_first_part : goal.returns-then-is_first_part
+unfolding tag_at line_steps
+returns-then-is_first_part g c = runs_as (c.is_first_part.ensures c.if-is_first_part.true) (record { meets = meets_block c.first_part.ensures meets_done })
+
 pub returns-then-number-ge211 : goal.returns-then-number-ge211
 returns-then-number-ge211 g c = no_tag c.args.number c.if-number-ge211.true
 

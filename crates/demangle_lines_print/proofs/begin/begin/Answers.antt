@@ -9,10 +9,9 @@ returns g c =
     record {
       page = ap (page_of g.T.RefersTo.table) c.start.ensures;
       place =
-          begins_at _ (page g.T.InnerNode.tree g.T.RefersTo.table g.W.DemangleWrite.seen c.args.ctx.now).fixed _
-          c.requires
-          (c.recursion_level.ensures.value ∙ ap (λ v. v.items.level) c.start.ensures)
-          (c.recursion_limit.ensures ∙ ap (λ v. v.items.limit) c.start.ensures) c.new.ensures;
+          begins_at _ (page g.T.InnerNode.tree g.T.RefersTo.table g.W.DemangleWrite.seen c.args.ctx.now).fixed
+          c.requires.refers (c.recursion_level.ensures.value ∙ ap (λ v. v.items.level) c.start.ensures)
+          c.requires.deepest;
       below = is_below _ c.recursion_level.ensures.value c.recursion_level.ensures.below c.start.ensures;
       reserved = refl;
       law = c.prints_declared.ensures.trees;

@@ -1,8 +1,0 @@
-use Rattle.std.proofs.Common.{◌∙◌, sym}
-use Rattle.demangle_cell_trees.proofs.Looks.{value_of_index}
-use Rattle.demangle_cell_trees.proofs.values.number_at.Goals as goal
-
-pub returns-in-Some : goal.returns-in-Some
-returns-in-Some c =
-    λ table input. c.value_in.ensures
-    ∙ sym (value_of_index c.args.arena.now c.args.id c.in-Some.cell c.in-Some.ensures table input)
