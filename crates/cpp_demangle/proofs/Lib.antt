@@ -1,10 +1,2 @@
-pub mod Causes
 pub mod Told
-pub mod Outcomes
-pub mod Wholes
-pub mod Names
-pub mod Plains
-pub mod Tellings
-pub mod OneNames
-pub mod NamesTold
 pub mod Symbols

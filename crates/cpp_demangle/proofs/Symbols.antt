@@ -13,15 +13,15 @@ use Rattle.demangle_grammar.specs.Tree.{Tree, core}
 use Rattle.demangle_grammar.specs.Reading.{Answer, Yes, No, Deep}
 use Rattle.demangle_grammar.specs.Code.{Reply, Found, Refused, Here, here}
 use Rattle.demangle_printing.specs.Outcome.{Options}
-use Rattle.cpp_demangle.specs.Reading.{reading, whole_at, whole}
+use Rattle.demangle_read.specs.Reading.{reading, whole_at, whole}
 use Rattle.cpp_demangle.specs.Found.{IsFront, IsFound}
-use Rattle.cpp_demangle.specs.Contents.{Contents, contents, same_contents, same_contents_equiv, telling_of}
-use Rattle.cpp_demangle.specs.Name.{IsSymbol, IsRead, IsRefused, IsNotWhole}
-use Rattle.cpp_demangle.proofs.Causes.{name_stops, error_stops}
-use Rattle.cpp_demangle.proofs.Names.{is_name, is_sound, is_symbol}
-use Rattle.cpp_demangle.proofs.Outcomes.{reading_stops}
-use Rattle.cpp_demangle.proofs.Tellings.{same_telling}
-use Rattle.cpp_demangle.proofs.Wholes.{unwhole}
+use Rattle.demangler.specs.Contents.{Contents, contents, same_contents, same_contents_equiv, telling_of}
+use Rattle.demangler.specs.Name.{IsSymbol, IsRead, IsRefused, IsNotWhole}
+use Rattle.demangler.proofs.Causes.{name_stops, error_stops}
+use Rattle.demangler.proofs.Names.{is_name, is_sound, is_symbol}
+use Rattle.demangler.proofs.Outcomes.{reading_stops}
+use Rattle.demangler.proofs.Tellings.{same_telling}
+use Rattle.demangler.proofs.Wholes.{unwhole}
 
 -- ---- what is read
 pub read_at_front : {limit : ℕ} {bytes : List ℕ} {x : Core} {p : Spot} {t : Table} →

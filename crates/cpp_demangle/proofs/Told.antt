@@ -30,7 +30,7 @@ use Rattle.demangle_print_below.specs.PageOf as below
 use Rattle.demangle_print_below.specs.PlaceOf.{place_in}
 use Rattle.demangle_print.specs.Demangled.{Reply, state, line_at, printed_line, Answers, Demangled}
 use Rattle.demangle_print.specs.Demangled as print
-use Rattle.cpp_demangle.specs.Telling.{Telling, telling, Breaks, Stops, Ends, Tells}
+use Rattle.demangle_lines_print.specs.Telling.{Telling, telling, Breaks, Stops, Ends, Tells}
 
 -- ---- where printing begins
 -- the page of a context that has just begun

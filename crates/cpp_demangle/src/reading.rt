@@ -1,6 +1,6 @@
 //! The reading of a whole name.
 
-ghost use Rattle.cpp_demangle.specs.Reading.{reading, whole};
+ghost use Rattle.demangle_read.specs.Reading.{reading, whole};
 ghost use Rattle.cpp_demangle.specs.Found.{IsFront, IsFound};
 
 use demangle_leaf_rows::ParseContext;

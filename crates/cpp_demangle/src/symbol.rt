@@ -4,8 +4,8 @@ ghost use Rattle.std.specs.Prelude.{◌≡◌, true, false, [], MatchResult, IfO
 ghost use Rattle.demangle_nodes.specs.TreeNodes.{tree_of_mangled_name};
 ghost use Rattle.demangle_table.specs.TableOf.{table_of};
 ghost use Rattle.demangle_text.specs.declared.error.Error.TheVariants.{OutOfMemory};
-ghost use Rattle.cpp_demangle.specs.Contents.{contents};
-ghost use Rattle.cpp_demangle.specs.Name.{IsSymbol};
+ghost use Rattle.demangler.specs.Contents.{contents};
+ghost use Rattle.demangler.specs.Name.{IsSymbol};
 
 use crate::raw::RawBytes;
 use crate::reading::{read_front, read_whole};
@@ -39,12 +39,12 @@ impl<T: RawBytes> Symbol<T> {
     ghost use Rattle.demangle_printing.specs.Laws.{holds_param};
     ghost use Rattle.demangle_printing.specs.Declarators.{Plain, declared};
     ghost use Rattle.demangle_context.specs.Options.{default_options};
-    ghost use Rattle.cpp_demangle.specs.Answer.{may_come, print_fault};
-    ghost use Rattle.cpp_demangle.specs.Reading.{reading, whole};
-    ghost use Rattle.cpp_demangle.specs.Name.{IsRead, IsRefused, IsNotWhole};
-    ghost use Rattle.cpp_demangle.specs.Telling.{Tells, IsText};
-    ghost use Rattle.cpp_demangle.specs.Plain.{IsPlain, Declares};
-    ghost use Rattle.cpp_demangle.specs.Contents.{expanded, telling_of, telling_unshared};
+    ghost use Rattle.demangler.specs.Answer.{may_come, print_fault};
+    ghost use Rattle.demangle_read.specs.Reading.{reading, whole};
+    ghost use Rattle.demangler.specs.Name.{IsRead, IsRefused, IsNotWhole};
+    ghost use Rattle.demangle_lines_print.specs.Telling.{Tells, IsText};
+    ghost use Rattle.demangler.specs.Plain.{IsPlain, Declares};
+    ghost use Rattle.demangler.specs.Contents.{expanded, telling_of, telling_unshared};
     ghost use Rattle.cpp_demangle.specs.SymbolOf.{contents_of};
 
     /// The symbol of a whole name, read under the default options. Errors are those of `new_with_options`.
@@ -180,9 +180,9 @@ fn copies(
 }
 
 impl<'a> Symbol<&'a [u8]> {
-    ghost use Rattle.cpp_demangle.specs.Reading.{reading};
-    ghost use Rattle.cpp_demangle.specs.Name.{IsRead, IsRefused};
-    ghost use Rattle.cpp_demangle.specs.Contents.{same_contents};
+    ghost use Rattle.demangle_read.specs.Reading.{reading};
+    ghost use Rattle.demangler.specs.Name.{IsRead, IsRefused};
+    ghost use Rattle.demangler.specs.Contents.{same_contents};
     ghost use Rattle.cpp_demangle.specs.SymbolOf.{contents_of};
 
     /// The symbol of the name at the front of the input, read under the default options, and what is left behind it.
@@ -234,7 +234,7 @@ impl<'a> Symbol<&'a [u8]> {
 }
 
 impl Symbol<Vec<u8>> {
-    ghost use Rattle.cpp_demangle.specs.Contents.{same_contents};
+    ghost use Rattle.demangler.specs.Contents.{same_contents};
     ghost use Rattle.cpp_demangle.specs.SymbolOf.{contents_of};
 
     /// A copy, equal to the symbol. `OutOfMemory` is the only refusal. `Clone` in the original.
@@ -269,7 +269,7 @@ impl<T: RawBytes> Drop for Symbol<T> {
 impl<T: RawBytes> PartialEq for Symbol<T> {
     ghost use Rattle.std.specs.Cmp.{on_per, partial_equiv_from_equiv};
     ghost use Rattle.demangle_printing.specs.Outcome.{Options};
-    ghost use Rattle.cpp_demangle.specs.Contents.{same_contents, same_contents_equiv, telling_of};
+    ghost use Rattle.demangler.specs.Contents.{same_contents, same_contents_equiv, telling_of};
     ghost use Rattle.cpp_demangle.specs.SymbolOf.{contents_of};
 
     ghost eq = { λ a b. same_contents (contents_of a) (contents_of b) };
@@ -290,7 +290,7 @@ impl<T: RawBytes> PartialEq for Symbol<T> {
 
 impl<T: RawBytes> Eq for Symbol<T> {
     ghost use Rattle.std.specs.Cmp.{on_equiv};
-    ghost use Rattle.cpp_demangle.specs.Contents.{same_contents_equiv};
+    ghost use Rattle.demangler.specs.Contents.{same_contents_equiv};
     ghost use Rattle.cpp_demangle.specs.SymbolOf.{contents_of};
 
     ghost laws = { on_equiv contents_of same_contents_equiv };

@@ -2,7 +2,7 @@
 
 ghost use Rattle.demangle_nodes.specs.TreeNodes.{tree_of_mangled_name};
 ghost use Rattle.demangle_table.specs.TableOf.{table_of};
-ghost use Rattle.cpp_demangle.specs.Telling.{telling, Tells, IsText};
+ghost use Rattle.demangle_lines_print.specs.Telling.{telling, Tells, IsText};
 
 use demangle_print::Demangle;
 use demangle_scope::{

@@ -14,12 +14,12 @@ use Rattle.demangle_printing.specs.State.{Answer, yes, no}
 use Rattle.demangle_printing.specs.Trees.{with_table}
 use Rattle.demangle_context.specs.declared.error.DemangleError.{DemangleError}
 use Rattle.demangle_context.specs.declared.error.DemangleError.TheVariants as printing
-use Rattle.cpp_demangle.specs.Answer.{answer_of, print_fault, read_error, read_fault}
-use Rattle.cpp_demangle.specs.Contents.{Contents, contents, telling_of}
-use Rattle.cpp_demangle.specs.Name.{IsRead, IsRefused}
-use Rattle.cpp_demangle.specs.Reading.{reading, whole, whole_at}
-use Rattle.cpp_demangle.specs.declared.demangle.SymbolFault.{SymbolFault}
-use Rattle.cpp_demangle.specs.declared.demangle.SymbolFault.TheVariants as fault
+use Rattle.demangler.specs.Answer.{answer_of, print_fault, read_error, read_fault}
+use Rattle.demangler.specs.Contents.{Contents, contents, telling_of}
+use Rattle.demangler.specs.Name.{IsRead, IsRefused}
+use Rattle.demangle_read.specs.Reading.{reading, whole, whole_at}
+use Rattle.demangler.specs.declared.fault.SymbolFault.{SymbolFault}
+use Rattle.demangler.specs.declared.fault.SymbolFault.TheVariants as fault
 use Rattle.demangle_parts.specs.Answers.{IsDivided, JoinsTo}
 use Rattle.demangle_parts.specs.Parts.{Divided, Into, Not, Parts, divided, divided_by, for_parts, signature_of}
 use Rattle.cpp_demangle_c.specs.Asked.{answer, print_options}

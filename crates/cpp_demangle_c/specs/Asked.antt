@@ -3,9 +3,9 @@ use Rattle.std.specs.Prelude.{◌≡◌, ℕ, ◌<◌, ◌==◌, ◌^◌, ◌-�
 use Rattle.std.specs.Prelude.{Vec}
 use Rattle.std.specs.declared.alloc.Global.{Global}
 use Rattle.demangle_printing.specs.Outcome.{Options, outcome}
-use Rattle.cpp_demangle.specs.Answer.{answer_of}
-use Rattle.cpp_demangle.specs.declared.demangle.SymbolFault.{SymbolFault}
-use Rattle.cpp_demangle.specs.declared.demangle.SymbolFault.TheVariants as fault
+use Rattle.demangler.specs.Answer.{answer_of}
+use Rattle.demangler.specs.declared.fault.SymbolFault.{SymbolFault}
+use Rattle.demangler.specs.declared.fault.SymbolFault.TheVariants as fault
 use Rattle.cpp_demangle_c.specs.declared.settings.Settings.{Settings}
 
 -- neither limit on levels is 0

@@ -1,6 +1,6 @@
 -- What a code says, and what the call that tells it owes.
 use Rattle.std.specs.Prelude.{ℕ, List, [], ◌∷◌, ◌++◌, length, map, slice_get, Option, Some, None, Ok, codes}
-use Rattle.cpp_demangle.specs.Answer.{fault_text}
+use Rattle.demangler.specs.Answer.{fault_text}
 use Rattle.cpp_demangle_c.specs.Codes.{causes}
 use Rattle.cpp_demangle_c.specs.Told.{code_due, room_due}
 

@@ -4,8 +4,8 @@ use Rattle.demangle_text.specs.declared.error.Error.{Error}
 use Rattle.demangle_text.specs.declared.error.Error.TheVariants as reading
 use Rattle.demangle_context.specs.declared.error.DemangleError.{DemangleError}
 use Rattle.demangle_context.specs.declared.error.DemangleError.TheVariants as printing
-use Rattle.cpp_demangle.specs.declared.demangle.SymbolFault.{SymbolFault}
-use Rattle.cpp_demangle.specs.declared.demangle.SymbolFault.TheVariants as fault
+use Rattle.demangler.specs.declared.fault.SymbolFault.{SymbolFault}
+use Rattle.demangler.specs.declared.fault.SymbolFault.TheVariants as fault
 
 -- Those that come have a code of their own, from 1 to 11.
 abbrev pub code_of_reading : Error → ℕ

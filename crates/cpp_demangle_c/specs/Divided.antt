@@ -8,11 +8,11 @@ use Rattle.demangle_grammar.specs.Code.{Reply, Found, Refused}
 use Rattle.demangle_printing.specs.Outcome.{Options}
 use Rattle.demangle_context.specs.TroubleOf.{error_at}
 use Rattle.demangle_parts_text.specs.Laws.{in_scope}
-use Rattle.cpp_demangle.specs.Answer.{read_error}
-use Rattle.cpp_demangle.specs.Contents.{contents}
-use Rattle.cpp_demangle.specs.Reading.{reading}
-use Rattle.cpp_demangle.specs.declared.demangle.SymbolFault.{SymbolFault}
-use Rattle.cpp_demangle.specs.declared.demangle.SymbolFault.TheVariants as fault
+use Rattle.demangler.specs.Answer.{read_error}
+use Rattle.demangler.specs.Contents.{contents}
+use Rattle.demangle_read.specs.Reading.{reading}
+use Rattle.demangler.specs.declared.fault.SymbolFault.{SymbolFault}
+use Rattle.demangler.specs.declared.fault.SymbolFault.TheVariants as fault
 use Rattle.demangle_parts.specs.Answers.{parts_in}
 use Rattle.demangle_parts.specs.Parts.{Divided, Into, Not, Parts, divided}
 use Rattle.demangle_parts.specs.declared.kind.Kind.{Kind}

@@ -1,7 +1,7 @@
 -- What a call owes of an answer: its code, the length that it tells, and the room behind the call.
 use Rattle.std.specs.Prelude.{◌≡◌, ℕ, ◌≤◌, ◌<◌, nat_le, if◌then◌else◌, List, [], ◌∷◌, ◌++◌, length, drop}
 use Rattle.std.specs.Prelude.{Result, Ok, Err}
-use Rattle.cpp_demangle.specs.declared.demangle.SymbolFault.{SymbolFault}
+use Rattle.demangler.specs.declared.fault.SymbolFault.{SymbolFault}
 use Rattle.cpp_demangle_c.specs.Codes.{code_of}
 
 -- a zero in the place of the first byte, where there is one

@@ -1,11 +1,11 @@
 //! The codes that the calls answer.
 
 ghost use Rattle.std.specs.Prelude.{◌≡◌, ◌<◌, true};
-ghost use Rattle.cpp_demangle.specs.Answer.{may_come};
+ghost use Rattle.demangler.specs.Answer.{may_come};
 ghost use Rattle.cpp_demangle_c.specs.Codes.{code_of, fault_at};
 
-use cpp_demangle::SymbolFault;
 use cpp_demangle::error::{DemangleError, Error};
+use demangler::SymbolFault;
 
 /// What was asked for was done.
 pub const DONE: u32 = 0;

@@ -1,12 +1,12 @@
 //! The text of a name, in memory that is taken at once for most names.
 
 ghost use Rattle.std.specs.Prelude.{◌≡◌, true, IfErr};
-ghost use Rattle.cpp_demangle.specs.Answer.{may_come};
+ghost use Rattle.demangler.specs.Answer.{may_come};
 ghost use Rattle.cpp_demangle_c.specs.Asked.{IsInRange, IsTextOf, answer};
 
 use crate::settings::Settings;
-use cpp_demangle::error::SinkFault;
-use cpp_demangle::{DemangleNodeType, DemangleWrite, SymbolFault, structured_demangle_symbol};
+use demangle_context::{DemangleNodeType, DemangleWrite, SinkFault};
+use demangler::{SymbolFault, structured_demangle_symbol};
 use std::alloc::Global;
 
 /// How many bytes a text has room for at first.

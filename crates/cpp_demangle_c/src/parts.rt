@@ -1,8 +1,8 @@
 //! The parts of a name in a buffer of C.
 
 ghost use Rattle.std.specs.Prelude.{◌≡◌, ◌≢◌, ◌↔◌, true, IfOk, IfErr, IfSome, Ok, Err, length, ◌⊎◌};
-ghost use Rattle.cpp_demangle.specs.Answer.{may_come, print_fault, read_fault};
-ghost use Rattle.cpp_demangle.specs.declared.demangle.SymbolFault.TheVariants.{OutOfMemory};
+ghost use Rattle.demangler.specs.Answer.{may_come, print_fault, read_fault};
+ghost use Rattle.demangler.specs.declared.fault.SymbolFault.TheVariants.{OutOfMemory};
 ghost use Rattle.demangle_parts.specs.Answers.{parts_in};
 ghost use Rattle.cpp_demangle_c.specs.Asked.{IsInRange, answer};
 ghost use Rattle.cpp_demangle_c.specs.Codes.{fault_at};
@@ -14,8 +14,9 @@ use crate::codes::{BAD_LENGTH, BAD_OPTION, DONE, NO_ROOM, OUT_OF_MEMORY, code_of
 use crate::settings::Settings;
 use crate::text::{hand_out, is_length};
 use cpp_demangle::error::{DemangleError, Error};
-use cpp_demangle::{BorrowedSymbol, Symbol, SymbolFault};
+use cpp_demangle::{BorrowedSymbol, Symbol};
 use demangle_parts::{Kind, Parts, parts_of};
+use demangler::SymbolFault;
 use std::alloc::{AllocError, Global};
 
 /// The arity that stands for none.

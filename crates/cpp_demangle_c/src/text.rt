@@ -1,7 +1,7 @@
 //! The text of a name in a buffer of C.
 
 ghost use Rattle.std.specs.Prelude.{◌≡◌, ◌≢◌, ◌≤◌, ◌<◌, ◌^◌, ◌↔◌, IsTrue, Ok, Err, length, IfSome};
-ghost use Rattle.cpp_demangle.specs.declared.demangle.SymbolFault.TheVariants.{OutOfMemory};
+ghost use Rattle.demangler.specs.declared.fault.SymbolFault.TheVariants.{OutOfMemory};
 ghost use Rattle.cpp_demangle_c.specs.Asked.{IsInRange, answer};
 ghost use Rattle.cpp_demangle_c.specs.Codes.{fault_at};
 ghost use Rattle.cpp_demangle_c.specs.Told.{HoldsText, LacksRoom, code_due, put, room_due};

@@ -5,8 +5,8 @@ use Rattle.std.proofs.Common.{append-nil, arith, codes, refl, Ok, Err}
 use Rattle.std.specs.Prelude.{Some, None}
 use Rattle.std.specs.Fmt.{decimal}
 use Rattle.demangle_printing.specs.Outcome.{Outcome, Shown, NotRead, NotPrinted}
-use Rattle.cpp_demangle.specs.Answer.{answer_of}
-use Rattle.cpp_demangle.specs.declared.demangle.SymbolFault.{SymbolFault}
+use Rattle.demangler.specs.Answer.{answer_of}
+use Rattle.demangler.specs.declared.fault.SymbolFault.{SymbolFault}
 use Rattle.cppfilt_lines.specs.Sample.{copies, sample_name, sample_texts, source_name, summary, text_in, type_at}
 use Rattle.cppfilt_lines.specs.Sample.{types_from}
 use Rattle.cppfilt_lines.specs.declared.options.FilterOptions.{FilterOptions}

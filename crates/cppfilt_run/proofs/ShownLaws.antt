@@ -8,9 +8,9 @@ use Rattle.demangle_text.specs.Kind.{Kind, Unread, Deep, Other, End, Text, Bad, 
 use Rattle.demangle_text.specs.Texts.{error_text}
 use Rattle.demangle_printing.specs.Outcome.{Outcome, Shown, NotRead, NotPrinted, outcome}
 use Rattle.demangle_context.specs.TroubleOf.{error_at}
-use Rattle.cpp_demangle.specs.Answer.{answer_of, fault_text, read_error}
-use Rattle.cpp_demangle.specs.declared.demangle.SymbolFault.{SymbolFault}
-use Rattle.cpp_demangle.specs.declared.demangle.SymbolFault.TheVariants as fault
+use Rattle.demangler.specs.Answer.{answer_of, fault_text, read_error}
+use Rattle.demangler.specs.declared.fault.SymbolFault.{SymbolFault}
+use Rattle.demangler.specs.declared.fault.SymbolFault.TheVariants as fault
 use Rattle.cppfilt_lines.specs.Due.{shown_line}
 use Rattle.cppfilt_lines.specs.Lines.{body, ending}
 use Rattle.cppfilt_lines.specs.Shown.{answered, is_asked, is_named, reading_text, refused, shown}

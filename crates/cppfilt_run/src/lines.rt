@@ -14,6 +14,7 @@ use cppfilt_ends::ends::Sink;
 use cppfilt_ends::output::{GATHERED, emit, flush};
 use cppfilt_lines::FilterOptions;
 use demangle_context::SinkFault;
+use demangler::Demangler;
 use std::alloc::{AllocError, Global};
 
 /// Room for the front of a line, to begin with.
@@ -21,7 +22,7 @@ const HELD: usize = 64 * 1024;
 
 /// Passes on what is due for a whole line, its ending included.
 fn emit_line<W: Sink>(
-    alloc: Global,
+    demangler: &mut Demangler,
     options: &FilterOptions,
     output: &mut W,
     pending: &mut Vec<u8>,
@@ -31,13 +32,13 @@ fn emit_line<W: Sink>(
         (pending.old.items ++ shown_line options.now line.now) pending.new.items }
 {
     let end = body_len(line);
-    emit_shown(alloc, options, output, pending, &line[..end])?;
+    emit_shown(demangler, options, output, pending, &line[..end])?;
     emit(output, pending, &line[end..])
 }
 
 /// Passes on what is due for a last line without a line feed.
 fn emit_last<W: Sink>(
-    alloc: Global,
+    demangler: &mut Demangler,
     options: &FilterOptions,
     output: &mut W,
     pending: &mut Vec<u8>,
@@ -50,13 +51,13 @@ fn emit_last<W: Sink>(
     if held.is_empty() {
         return Ok(());
     }
-    emit_line(alloc, options, output, pending, held)
+    emit_line(demangler, options, output, pending, held)
 }
 
 /// What is kept of the input from one block to the next.
 #[derive(Drop)]
 pub(crate) struct LineFilter {
-    alloc: Global,
+    demangler: Demangler,
     /// The front of a line that isn't complete. It has no line feed.
     held: Vec<u8>,
     /// What is due and not yet written.
@@ -69,7 +70,7 @@ impl LineFilter {
         ensures { IfOk result (λ filter. (filter.held.items ≡ []) × (filter.pending.items ≡ [])) }
     {
         Ok(LineFilter {
-            alloc,
+            demangler: Demangler::new(alloc),
             held: Vec::with_capacity(alloc, HELD)?,
             pending: Vec::with_capacity(alloc, GATHERED)?,
         })
@@ -91,11 +92,17 @@ impl LineFilter {
         ensures held { OnOk result (self.new.held.items ≡ []) }
     {
         if self.held.is_empty() {
-            return emit_line(self.alloc, options, output, &mut self.pending, line);
+            return emit_line(
+                &mut self.demangler,
+                options,
+                output,
+                &mut self.pending,
+                line,
+            );
         }
         self.held.extend_from_slice(line)?;
         emit_line(
-            self.alloc,
+            &mut self.demangler,
             options,
             output,
             &mut self.pending,
@@ -188,7 +195,7 @@ impl LineFilter {
             (ahead options.now self.old.pending.items self.old.held.items []) [] }
     {
         emit_last(
-            self.alloc,
+            &mut self.demangler,
             options,
             output,
             &mut self.pending,

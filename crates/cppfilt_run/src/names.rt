@@ -13,6 +13,7 @@ use cppfilt_ends::ends::Sink;
 use cppfilt_ends::output::{emit, flush};
 use cppfilt_lines::FilterOptions;
 use demangle_context::SinkFault;
+use demangler::Demangler;
 use std::alloc::Global;
 
 /// Writes what is due for names: each as it is shown, and a line feed.
@@ -25,8 +26,9 @@ pub(crate) fn show_names<W: Sink>(
     ensures { Finished result (W.faults output.old) (W.faults output.new) (W.written output.old) (W.written output.new)
         (due_names options.now (map (λ name. name.now) names.now)) }
 {
+    let mut demangler = Demangler::new(alloc);
     let mut pending = Vec::new(alloc);
-    match write_names(alloc, options, names, output, &mut pending) {
+    match write_names(&mut demangler, options, names, output, &mut pending) {
         Ok(()) => Status::Done,
         Err(fault) => status_of(fault),
     }
@@ -34,7 +36,7 @@ pub(crate) fn show_names<W: Sink>(
 
 /// Writes what is due for names, with nothing gathered before.
 fn write_names<W: Sink>(
-    alloc: Global,
+    demangler: &mut Demangler,
     options: &FilterOptions,
     names: &[&str],
     output: &mut W,
@@ -45,14 +47,14 @@ fn write_names<W: Sink>(
         (due_names options.now (map (λ name. name.now) names.now)) [] }
 {
     for name in names {
-        emit_name(alloc, options, output, pending, name.as_bytes())?;
+        emit_name(demangler, options, output, pending, name.as_bytes())?;
     }
     flush(output, pending)
 }
 
 /// Passes on a name as it is shown, and a line feed.
 fn emit_name<W: Sink>(
-    alloc: Global,
+    demangler: &mut Demangler,
     options: &FilterOptions,
     output: &mut W,
     pending: &mut Vec<u8>,
@@ -61,6 +63,6 @@ fn emit_name<W: Sink>(
     ensures { Gives (W.written output.old) (W.written output.new) (W.faults output.old) (W.faults output.new) result
         (pending.old.items ++ (shown options.now name.now ++ 10 ∷ [])) pending.new.items }
 {
-    emit_shown(alloc, options, output, pending, name)?;
+    emit_shown(demangler, options, output, pending, name)?;
     emit(output, pending, b"\n")
 }

@@ -10,12 +10,12 @@ ghost use Rattle.cppfilt_run.specs.Outcome.{Finished};
 
 use crate::filter::status_of;
 use crate::status::Status;
-use cpp_demangle::SymbolFault;
 use cppfilt_ends::ends::Sink;
 use cppfilt_ends::output::write_all;
 use cppfilt_lines::FilterOptions;
 use demangle_decimal::Decimal;
 use demangle_gather::gather;
+use demangler::{Demangler, SymbolFault};
 use std::alloc::{AllocError, Global};
 
 /// Writes what is due for a sample of so many names.
@@ -96,8 +96,9 @@ fn text_len(
 ) -> Result<Option<usize>, AllocError>
     ensures { IfOk result (IsLength (text_in (outcome options.now.parse options.now.print name.now))) }
 {
+    let mut demangler = Demangler::new(alloc);
     let mut text = Vec::new(alloc);
-    match gather(alloc, name, &options.parse, &options.print, &mut text) {
+    match gather(&mut demangler, name, &options.parse, &options.print, &mut text) {
         Ok(()) => Ok(Some(text.len())),
         Err(SymbolFault::OutOfMemory) => Err(AllocError),
         Err(_) => Ok(None),

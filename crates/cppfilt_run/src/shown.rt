@@ -5,13 +5,12 @@ ghost use Rattle.cppfilt_ends.specs.Moves.{Gives};
 ghost use Rattle.cppfilt_run.specs.Refused.{IsRefused};
 ghost use Rattle.cppfilt_lines.specs.Shown.{is_named, is_asked, refused, shown};
 
-use cpp_demangle::SymbolFault;
 use cppfilt_ends::ends::Sink;
 use cppfilt_ends::output::{emit, emit_both, relieve};
 use cppfilt_lines::FilterOptions;
 use demangle_context::SinkFault;
 use demangle_gather::gather;
-use std::alloc::Global;
+use demangler::{Demangler, SymbolFault};
 
 /// A line with more bytes than this before its ending is never asked for its text.
 const LINE_LIMIT: usize = 1_048_576;
@@ -37,7 +36,7 @@ fn is_asked(options: &FilterOptions, bytes: &[u8]) -> bool
 
 /// Passes on bytes as they are shown.
 pub(crate) fn emit_shown<W: Sink>(
-    alloc: Global,
+    demangler: &mut Demangler,
     options: &FilterOptions,
     output: &mut W,
     pending: &mut Vec<u8>,
@@ -47,7 +46,7 @@ pub(crate) fn emit_shown<W: Sink>(
         (pending.old.items ++ shown options.now bytes.now) pending.new.items }
 {
     if is_asked(options, bytes) {
-        return emit_asked(alloc, options, output, pending, bytes);
+        return emit_asked(demangler, options, output, pending, bytes);
     }
     emit(output, pending, bytes)
 }
@@ -55,7 +54,7 @@ pub(crate) fn emit_shown<W: Sink>(
 /// Passes on what becomes of bytes that are asked: their text, or else the bytes, with the cause where causes are
 /// shown.
 fn emit_asked<W: Sink>(
-    alloc: Global,
+    demangler: &mut Demangler,
     options: &FilterOptions,
     output: &mut W,
     pending: &mut Vec<u8>,
@@ -65,7 +64,7 @@ fn emit_asked<W: Sink>(
     ensures { Gives (W.written output.old) (W.written output.new) (W.faults output.old) (W.faults output.new) result
         (pending.old.items ++ shown options.now bytes.now) pending.new.items }
 {
-    match gather(alloc, bytes, &options.parse, &options.print, pending) {
+    match gather(demangler, bytes, &options.parse, &options.print, pending) {
         Ok(()) => relieve(output, pending),
         Err(fault) => emit_fault(options.why, output, pending, bytes, fault),
     }

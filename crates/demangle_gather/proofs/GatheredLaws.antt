@@ -5,9 +5,9 @@ use Rattle.std.specs.Prelude.{Some, None, Result}
 use Rattle.demangle_meets.specs.Goes.{Rose}
 use Rattle.demangle_meets.specs.Seen.{Seen}
 use Rattle.demangle_context.specs.declared.error.DemangleError.TheVariants as printing
-use Rattle.cpp_demangle.specs.NameTold.{IsToldAnswer, Lengthens}
-use Rattle.cpp_demangle.specs.declared.demangle.SymbolFault.{SymbolFault}
-use Rattle.cpp_demangle.specs.declared.demangle.SymbolFault.TheVariants as fault
+use Rattle.demangler.specs.NameTold.{IsToldAnswer, Lengthens}
+use Rattle.demangler.specs.declared.fault.SymbolFault.{SymbolFault}
+use Rattle.demangler.specs.declared.fault.SymbolFault.TheVariants as fault
 use Rattle.demangle_gather.specs.Gathered.{IsGathered}
 
 -- what is seen of it, with this text

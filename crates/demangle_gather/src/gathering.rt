@@ -2,13 +2,12 @@
 
 ghost use Rattle.std.specs.Prelude.{◌≡◌, Some, None};
 ghost use Rattle.demangle_printing.specs.Outcome.{outcome};
-ghost use Rattle.cpp_demangle.specs.Answer.{answer_of};
+ghost use Rattle.demangler.specs.Answer.{answer_of};
 ghost use Rattle.demangle_gather.specs.Gathered.{IsGathered};
 
-use cpp_demangle::{SymbolFault, structured_demangle_symbol};
 use demangle_context::{DemangleNodeType, DemangleOptions, DemangleWrite, SinkFault};
 use demangle_text::ParseOptions;
-use std::alloc::Global;
+use demangler::{Demangler, SymbolFault};
 use std::mem;
 
 /// A listener that puts the text behind the bytes it was made with, and keeps nothing of the nodes. It fails only for
@@ -64,7 +63,7 @@ impl DemangleWrite for Gathering {
 /// Puts the text of a linker name behind what is gathered, while it is printed. Where the name has no text, what is
 /// gathered is cut back to what it was. Errors are those of `demangle_symbol`.
 pub fn gather(
-    alloc: Global,
+    demangler: &mut Demangler,
     name: &[u8],
     parse: &ParseOptions,
     print: &DemangleOptions,
@@ -74,8 +73,9 @@ pub fn gather(
         gathered.old.items gathered.new.items result }
 {
     let before = gathered.len();
+    let alloc = *gathered.allocator();
     let mut listener = Gathering::behind(mem::replace(gathered, Vec::new(alloc)));
-    let answer = structured_demangle_symbol(alloc, name, &mut listener, parse, print);
+    let answer = demangler.structured_demangle(name, &mut listener, parse, print);
     *gathered = listener.into_gathered();
     match answer {
         Ok(()) => Ok(()),

@@ -15,9 +15,9 @@ use Rattle.demangle_printing.specs.Trees.{with_table}
 use Rattle.demangle_context.specs.declared.error.DemangleError.{DemangleError}
 use Rattle.demangle_context.specs.declared.error.DemangleError.TheVariants as printing
 use Rattle.demangle_groups.specs.Places.{is_refused, positions, positions_from}
-use Rattle.cpp_demangle.specs.Contents.{Contents, contents}
-use Rattle.cpp_demangle.specs.Name.{IsRead, IsRefused}
-use Rattle.cpp_demangle.specs.Reading.{reading, whole, whole_at}
+use Rattle.demangler.specs.Contents.{Contents, contents}
+use Rattle.demangler.specs.Name.{IsRead, IsRefused}
+use Rattle.demangle_read.specs.Reading.{reading, whole, whole_at}
 use Rattle.demangle_parts.specs.Answers.{IsDivided}
 use Rattle.demangle_parts.specs.Entries.{entries, entry, entry_after, entry_of, entry_when_read, has_no_text, is_shown}
 use Rattle.demangle_parts.specs.Parts.{Divided, Into, Not, divided, divided_by, for_parts, signature_of}

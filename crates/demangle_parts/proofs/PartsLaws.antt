@@ -16,8 +16,8 @@ use Rattle.demangle_parts_text.specs.Items.{Items, items, text_in}
 use Rattle.demangle_parts_text.specs.Laws.{JoinsCut, KeepsText, in_scope}
 use Rattle.demangle_parts_text.specs.Split.{cut_if}
 use Rattle.demangle_parts_text.specs.declared.divided.Divided as text
-use Rattle.cpp_demangle.specs.Contents.{Contents, telling_of}
-use Rattle.cpp_demangle.specs.Telling.{Ends, Stops, Telling, Tells, TellsAll}
+use Rattle.demangler.specs.Contents.{Contents, telling_of}
+use Rattle.demangle_lines_print.specs.Telling.{Ends, Stops, Telling, Tells, TellsAll}
 use Rattle.demangle_parts.specs.Answers.{IsDivided, JoinsTo}
 use Rattle.demangle_parts.specs.Parts.{Divided, Into, Not, divided, divided_by, for_parts, parts_with, signature_of}
 use Rattle.demangle_parts.specs.declared.signature.Signature.{Signature}

@@ -7,7 +7,7 @@ use Rattle.demangle_context.specs.declared.error.DemangleError.TheVariants as pr
 use Rattle.demangle_parts_text.specs.Divided.{shown}
 use Rattle.demangle_parts_text.specs.Laws.{in_scope}
 use Rattle.demangle_parts_text.specs.Split.{Cut}
-use Rattle.cpp_demangle.specs.Telling.{Telling}
+use Rattle.demangle_lines_print.specs.Telling.{Telling}
 use Rattle.demangle_parts.specs.Parts.{Divided, Into, Not, Parts}
 use Rattle.demangle_parts.specs.declared.parts.Parts as code
 

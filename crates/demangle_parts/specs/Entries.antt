@@ -6,8 +6,8 @@ use Rattle.demangle_core.specs.Table.{Table}
 use Rattle.demangle_grammar.specs.Code.{Reply, Found, Refused}
 use Rattle.demangle_printing.specs.Outcome.{Options, Outcome, Shown, outcome}
 use Rattle.demangle_groups.specs.Places.{Entry}
-use Rattle.cpp_demangle.specs.Contents.{contents}
-use Rattle.cpp_demangle.specs.Reading.{reading}
+use Rattle.demangler.specs.Contents.{contents}
+use Rattle.demangle_read.specs.Reading.{reading}
 use Rattle.demangle_parts.specs.Answers.{parts_in}
 use Rattle.demangle_parts.specs.Parts.{Divided, Into, Not, divided, for_parts}
 use Rattle.demangle_parts.specs.declared.parts.Parts as code

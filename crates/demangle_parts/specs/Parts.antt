@@ -9,7 +9,7 @@ use Rattle.demangle_printing.specs.State.{Event, Answer, yes, no, Fault}
 use Rattle.demangle_printing.specs.Outcome.{Options, printed}
 use Rattle.demangle_parts_text.specs.Items.{items}
 use Rattle.demangle_parts_text.specs.Split.{Cut, cut_if}
-use Rattle.cpp_demangle.specs.Contents.{Contents}
+use Rattle.demangler.specs.Contents.{Contents}
 use Rattle.demangle_parts.specs.declared.kind.Kind.{Kind}
 use Rattle.demangle_parts.specs.declared.kind.Kind.TheVariants as kind
 use Rattle.demangle_parts.specs.declared.signature.Signature.{Signature}

@@ -1,7 +1,7 @@
 //! The parts of a name.
 
 ghost use Rattle.std.specs.Prelude.{◌≡◌, IfOk, option_map};
-ghost use Rattle.cpp_demangle.specs.Contents.{telling_of};
+ghost use Rattle.demangler.specs.Contents.{telling_of};
 ghost use Rattle.cpp_demangle.specs.SymbolOf.{contents_of};
 ghost use Rattle.demangle_parts.specs.Answers.{IsDivided, JoinsTo, parts_in};
 ghost use Rattle.demangle_parts.specs.Parts.{divided, for_parts};

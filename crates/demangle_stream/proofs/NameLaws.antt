@@ -7,8 +7,8 @@ use Rattle.std.proofs.Math.Bool.{and-false}
 use Rattle.std.specs.Prelude.{Result}
 use Rattle.std.specs.Result.{IsErr, OnOk}
 use Rattle.demangle_printing.specs.Outcome.{Options, Outcome, Shown, NotRead, NotPrinted, outcome}
-use Rattle.cpp_demangle.specs.Answer.{answer_of}
-use Rattle.cpp_demangle.specs.declared.demangle.SymbolFault.{SymbolFault}
+use Rattle.demangler.specs.Answer.{answer_of}
+use Rattle.demangler.specs.declared.fault.SymbolFault.{SymbolFault}
 use Rattle.demangle_stream.specs.Appended.{Appended, Grown}
 use Rattle.demangle_stream.specs.Replaced.{replaced}
 use Rattle.demangle_stream.specs.Runs.{run_len}
@@ -111,7 +111,8 @@ module _ (p : ℕ) (o : Options) where
       (ap (replaced p o) (sym (take-append-drop at behind))
       ∙ replaced-stays p o (take at behind) named' stay start
       ∙ ap (λ l. take at behind ++ l)
-      (ap (replaced p o) (sym parts) ∙ replaced-run p o (take k named') (drop k named') (front-run named') (behind-front named'))
+      (ap (replaced p o) (sym parts)
+      ∙ replaced-run p o (take k named') (drop k named') (front-run named') (behind-front named'))
       ∙ sym (append_assoc (take at behind) (becomes p o (take k named')) (replaced p o (drop k named'))))
 
   pub names-further : (whole behind staying run after out0 out1 out2 out3 : List ℕ)
@@ -120,7 +121,8 @@ module _ (p : ℕ) (o : Options) where
       → replaced p o behind ≡ (staying ++ becomes p o run) ++ replaced p o after
       → out3 ++ replaced p o after ≡ out0 ++ replaced p o whole
   names-further whole behind staying run after out0 out1 out2 out3 so_far e f next =
-      ap (λ l. l ++ replaced p o after) (f ∙ ap (λ l. l ++ becomes p o run) e ∙ append_assoc out1 staying (becomes p o run))
+      ap (λ l. l ++ replaced p o after)
+      (f ∙ ap (λ l. l ++ becomes p o run) e ∙ append_assoc out1 staying (becomes p o run))
       ∙ append_assoc out1 (staying ++ becomes p o run) (replaced p o after)
       ∙ ap (λ l. out1 ++ l) (sym next) ∙ so_far
 

@@ -8,10 +8,10 @@ ghost use Rattle.demangle_stream.specs.Shown.{becomes, is_named, name_len};
 use crate::runs::run_len;
 use crate::staying::underscore_run;
 use crate::stream::StreamFault;
-use cpp_demangle::SymbolFault;
 use demangle_context::DemangleOptions;
 use demangle_gather::gather;
 use demangle_text::ParseOptions;
+use demangler::{Demangler, SymbolFault};
 use std::alloc::Global;
 
 /// A longer run is never asked for its text.
@@ -43,7 +43,7 @@ fn name_len(run: &[u8]) -> usize
 
 /// Appends what a run becomes.
 pub(crate) fn append_run(
-    alloc: Global,
+    demangler: &mut Demangler,
     parse: &ParseOptions,
     print: &DemangleOptions,
     run: &[u8],
@@ -56,7 +56,7 @@ pub(crate) fn append_run(
         out.extend_from_slice(run)?;
         return Ok(());
     }
-    match gather(alloc, name, parse, print, out) {
+    match gather(demangler, name, parse, print, out) {
         Ok(()) => {
             out.extend_from_slice(dots)?;
             Ok(())
@@ -89,12 +89,26 @@ pub fn replace_names(
 ) -> Result<(), StreamFault>
     ensures { Appended result out.old.items out.new.items (replaced parse.now print.now text.now) }
 {
+    let mut demangler = Demangler::new(alloc);
+    append_replaced(&mut demangler, text, parse, print, out)
+}
+
+/// Appends a text with its names replaced, by this demangler.
+pub(crate) fn append_replaced(
+    demangler: &mut Demangler,
+    text: &[u8],
+    parse: &ParseOptions,
+    print: &DemangleOptions,
+    out: &mut Vec<u8>,
+) -> Result<(), StreamFault>
+    ensures { Appended result out.old.items out.new.items (replaced parse.now print.now text.now) }
+{
     let mut behind = text;
     while let Some(at) = underscore_run(behind) {
         let (staying, named) = behind.split_at(at);
         let (run, after) = named.split_at(run_len(named));
         out.extend_from_slice(staying)?;
-        append_run(alloc, parse, print, run, out)?;
+        append_run(demangler, parse, print, run, out)?;
         behind = after;
     }
     out.extend_from_slice(behind)?;

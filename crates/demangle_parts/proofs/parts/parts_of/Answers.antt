@@ -1,6 +1,6 @@
 use Rattle.std.proofs.Common.{◌∙◌, ap, refl}
 use Rattle.demangle_nodes.specs.TreeNodes.{tree_of_mangled_name}
-use Rattle.cpp_demangle.specs.Contents.{telling_of}
+use Rattle.demangler.specs.Contents.{telling_of}
 use Rattle.cpp_demangle.specs.SymbolOf.{contents_of}
 use Rattle.demangle_parts.specs.Parts.{signature_of}
 use Rattle.demangle_parts.proofs.PartsLaws.{are-parts, join-to, refused-by}

@@ -1,6 +1,6 @@
 use Rattle.demangle_nodes.specs.TreeNodes.{tree_of_mangled_name}
 use Rattle.demangle_table.specs.TableOf.{table_of}
-use Rattle.cpp_demangle.specs.Contents.{contents}
+use Rattle.demangler.specs.Contents.{contents}
 use Rattle.cpp_demangle.specs.SymbolOf.{contents_of}
 use Rattle.cpp_demangle.proofs.Symbols.{copies_equal}
 use Rattle.cpp_demangle.proofs.symbol.«Symbol+ref+slice+u8».try_clone.Goals as goal

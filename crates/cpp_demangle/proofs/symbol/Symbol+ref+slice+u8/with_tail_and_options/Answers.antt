@@ -1,8 +1,8 @@
 use Rattle.std.proofs.Common.{sym, subst}
 use Rattle.demangle_nodes.specs.TreeNodes.{tree_of_mangled_name}
 use Rattle.demangle_table.specs.TableOf.{table_of}
-use Rattle.cpp_demangle.specs.Contents.{contents}
-use Rattle.cpp_demangle.specs.Name.{IsRead}
+use Rattle.demangler.specs.Contents.{contents}
+use Rattle.demangler.specs.Name.{IsRead}
 use Rattle.cpp_demangle.proofs.Symbols.{read_at_front, symbol_at_front, refused_front}
 use Rattle.cpp_demangle.proofs.symbol.«Symbol+ref+slice+u8».with_tail_and_options.Goals as goal
 

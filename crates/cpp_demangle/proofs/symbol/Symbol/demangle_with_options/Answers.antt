@@ -1,6 +1,6 @@
-use Rattle.cpp_demangle.specs.Contents.{telling_of}
+use Rattle.demangler.specs.Contents.{telling_of}
 use Rattle.cpp_demangle.specs.SymbolOf.{contents_of}
-use Rattle.cpp_demangle.proofs.Tellings.{text_shared, text_declares, text_caused}
+use Rattle.demangler.proofs.Tellings.{text_shared, text_declares, text_caused}
 use Rattle.cpp_demangle.proofs.symbol.Symbol.demangle_with_options.Goals as goal
 
 pub returns-clause-shared : goal.returns-clause-shared

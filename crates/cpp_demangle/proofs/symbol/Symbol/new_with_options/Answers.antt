@@ -1,5 +1,5 @@
 use Rattle.std.proofs.Common.{Err, subst}
-use Rattle.cpp_demangle.specs.Reading.{reading, whole}
+use Rattle.demangle_read.specs.Reading.{reading, whole}
 use Rattle.cpp_demangle.specs.Found.{IsFound}
 use Rattle.cpp_demangle.proofs.Symbols.{read_whole, symbol_whole, refused_whole, not_whole}
 use Rattle.cpp_demangle.proofs.symbol.Symbol.new_with_options.Goals as goal

@@ -1,5 +1,5 @@
 use Rattle.cpp_demangle.specs.SymbolOf.{contents_of}
-use Rattle.cpp_demangle.proofs.Tellings.{tells_shared}
+use Rattle.demangler.proofs.Tellings.{tells_shared}
 use Rattle.cpp_demangle.proofs.symbol.Symbol.structured_demangle.Goals as goal
 
 pub returns-clause-told : goal.returns-clause-told

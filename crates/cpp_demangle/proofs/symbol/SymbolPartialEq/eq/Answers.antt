@@ -1,5 +1,5 @@
 use Rattle.std.proofs.Common.{◌≡◌, sym, ◌∙◌, rules}
-use Rattle.cpp_demangle.specs.Contents.{same_contents}
+use Rattle.demangler.specs.Contents.{same_contents}
 use Rattle.cpp_demangle.specs.SymbolOf.{contents_of}
 use Rattle.cpp_demangle.proofs.Symbols.{symbols_alike}
 use Rattle.cpp_demangle.proofs.symbol.SymbolPartialEq.eq.Goals as goal

@@ -1,0 +1,10 @@
+pub mod Causes
+pub mod Outcomes
+pub mod Wholes
+pub mod Names
+pub mod Plains
+pub mod Tellings
+pub mod OneNames
+pub mod NamesTold
+pub mod Founds
+pub mod Texts
