@@ -98,7 +98,13 @@ fn text_len(
 {
     let mut demangler = Demangler::new(alloc);
     let mut text = Vec::new(alloc);
-    match gather(&mut demangler, name, &options.parse, &options.print, &mut text) {
+    match gather(
+        &mut demangler,
+        name,
+        &options.parse,
+        &options.print,
+        &mut text,
+    ) {
         Ok(()) => Ok(Some(text.len())),
         Err(SymbolFault::OutOfMemory) => Err(AllocError),
         Err(_) => Ok(None),
