@@ -1,2 +1,4 @@
 pub mod Levels
 pub mod Alike
+pub mod Worlds
+pub mod Readings

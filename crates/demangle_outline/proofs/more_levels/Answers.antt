@@ -1,5 +1,5 @@
 use Rattle.demangle_outline.proofs.Levels.{more_levels}
-use Rattle.demangle_outline.proofs.Alike.{Alike}
+use Rattle.demangle_outline.proofs.Readings.{row_meets}
 use Rattle.demangle_outline.proofs.more_levels.Goals as goal
 
 pub returns : goal.returns
