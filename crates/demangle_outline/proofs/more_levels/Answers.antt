@@ -1,5 +1,4 @@
 use Rattle.demangle_outline.proofs.Levels.{more_levels}
-use Rattle.demangle_outline.proofs.Readings.{row_meets}
 use Rattle.demangle_outline.proofs.more_levels.Goals as goal
 
 pub returns : goal.returns
