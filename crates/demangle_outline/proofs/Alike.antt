@@ -1,5 +1,5 @@
 -- Parts that were read over two tables: alike but for the numbers of components, and for what no test looks at.
-use Rattle.std.specs.Prelude.{◌≡◌, ℕ, zero, suc, ◌+◌, ◌-◌, Bool, true, false, cond, not, List, [], ◌∷◌, ◌==◌, ℤ, pos, negsuc, Option, Some, None, drop, length, nat_le}
+use Rattle.std.specs.Prelude.{◌≡◌, ℕ, zero, suc, ◌+◌, ◌-◌, Bool, true, false, cond, not, List, [], ◌∷◌, ◌==◌, ℤ, pos, negsuc, Option, Some, None}
 use Rattle.std.proofs.Common.{refl, ap}
 use Rattle.demangle_core.specs.Core.{Core, end, node, place, number, flag, chosen, ref, mark, ◌⊕◌, Tag, Which, N, U}
 use Rattle.demangle_core.specs.Table.{Entry, count}
@@ -9,7 +9,7 @@ use Rattle.demangle_text.specs.Number.{number_at}
 use Rattle.demangle_text.specs.Kind.{Text}
 use Rattle.demangle_text.specs.Found.{Found, took, none, mapped}
 use Rattle.demangle_vocab.specs.WordTable.{table_at}
-use Rattle.demangle_grammar.specs.Rule.{Class, Eat, Cond, Given, Make}
+use Rattle.demangle_grammar.specs.Rule.{Eat, Cond, Given, Make}
 use Rattle.demangle_grammar.specs.Tree.{index_of, longer_by, data_member_of, reshaped, component_of, rest_of, template_name, nested_unqualified, nested_template, taken_of, reference}
 use Rattle.demangle_grammar.specs.Reading.{find, run_found, is_in, given, numbered, worded, holds, is_numbered, is_member, is_ten_or_more, arity_in, last_component, is_nestable}
 

@@ -1,6 +1,6 @@
 -- Two readings side by side stay so.
-use Rattle.std.specs.Prelude.{◌⊎◌, ◌≡◌, ℕ, zero, suc, ◌+◌, Bool, true, false, not, ◌&&◌, ◌||◌, List, [], ◌∷◌, ◌++◌, length, take, drop, ◌==◌, nat_lt, codes}
-use Rattle.std.proofs.Common.{refl, ap, ◌∙◌}
+use Rattle.std.specs.Prelude.{◌≡◌, ℕ, zero, suc, Bool, true, false, not, ◌&&◌, ◌||◌, List, length, drop, ◌==◌, nat_lt, codes}
+use Rattle.std.proofs.Common.{refl}
 use Rattle.demangle_core.specs.Core.{Core, end, ◌⊕◌, Tag, Which, N, U}
 use Rattle.demangle_core.specs.Table.{Entry, count}
 use Rattle.demangle_text.specs.Kind.{Cause, Text, Bad, End}
@@ -8,9 +8,9 @@ use Rattle.demangle_text.specs.Found.{Found, took, none}
 use Rattle.demangle_text.specs.Word.{starts, missing_word}
 use Rattle.demangle_text.specs.Number.{natural_at}
 use Rattle.demangle_grammar.specs.Rule.{Class, Row, Make, Leaf, Rule}
-use Rattle.demangle_grammar.specs.Tree.{cores, How, shape, component_of, template_entry, taken_of, reference}
+use Rattle.demangle_grammar.specs.Tree.{cores, How, shape, template_entry, reference}
 use Rattle.demangle_grammar.specs.Rows.{rule}
-use Rattle.demangle_grammar.specs.Reading.{State, Answer, Yes, No, Deep, find, holds, refusal, marks, step, where_so, found, next_do, or_else, ended, many, turned, turn, turns, whole, sized, tried, trial_of, run_rule, read_from, answer, go_on, hard, soft, kept, prefix_entry, is_nestable, is_empty, next_is, ahead_by, widened}
+use Rattle.demangle_grammar.specs.Reading.{State, Answer, Yes, No, Deep, find, refusal, marks, step, where_so, found, next_do, or_else, ended, many, turned, turn, turns, whole, sized, tried, trial_of, run_rule, read_from, answer, go_on, hard, soft, kept, prefix_entry, is_empty, next_is, ahead_by}
 use Rattle.demangle_grammar.proofs.Truth.{both_true, either}
 use Rattle.demangle_outline.proofs.Alike.{Heads, Alike, Blind, heads, two_nodes, heads_behind, behind, component_same, holds_same, nestable_same, reshaped_alike, template_alike, reference_alike, IsSelf, find_self, taken_node}
 use Rattle.demangle_outline.proofs.Worlds.{begins_so, Free, Calm, free_by, Near, ahead_near, front_near, wider_near, calm_behind, kept_near, both_new, both_free, counts_free, prefix_same}

@@ -1,5 +1,5 @@
 -- What a reading sees of its table, as said of the program's reading.
-use Rattle.std.specs.Prelude.{◌≡◌, ◌⊎◌, ℕ, Bool, List, [], ◌∷◌, ◌++◌}
+use Rattle.std.specs.Prelude.{◌≡◌, ℕ, Bool, List, [], ◌++◌, take, drop}
 use Rattle.std.proofs.Common.{refl, sym, subst, ap, ◌∙◌, inl, inr}
 use Rattle.demangle_core.specs.Core.{Core, end}
 use Rattle.demangle_core.specs.Table.{Entry, Table}
@@ -7,15 +7,37 @@ use Rattle.demangle_text.specs.Kind.{Kind}
 use Rattle.demangle_text.specs.Spot.{Spot}
 use Rattle.demangle_grammar.specs.Rule.{Row}
 use Rattle.demangle_grammar.specs.Tree.{cores}
-use Rattle.demangle_grammar.specs.Reading.{State, Answer, Yes, No, Deep, read_from}
-use Rattle.demangle_grammar.specs.Code.{Here, here, Reply, Found, Refused}
+use Rattle.demangle_grammar.specs.Reading.{State, Answer, Yes, read_from}
+use Rattle.demangle_grammar.specs.Code.{Here, here, Reply, Found, Refused, cread}
 use Rattle.demangle_grammar.specs.Seen.{seen, replied}
 use Rattle.demangle_grammar.proofs.Bridge.{reads_code}
 use Rattle.demangle_grammar.proofs.Kept.{append-nil}
-use Rattle.demangle_outline.specs.Outline.{outline, Agree, read, SameRefusals, SameEnds}
+use Rattle.demangle_outline.specs.Outline.{Agree}
 use Rattle.demangle_outline.proofs.Alike.{Alike}
-use Rattle.demangle_outline.proofs.Worlds.{Same, to_same, Near, agree}
+use Rattle.demangle_outline.proofs.Worlds.{Same, to_same, Near, agree, without_drop, without_take}
 use Rattle.demangle_outline.proofs.Readings.{is_nested, Of, Meets, row_meets}
+
+-- ---- tables that agree
+pub agree_same : (left : List ℕ) (t : Table) → Agree left t t
+agree_same left t = inr refl
+
+pub agree_back : (left : List ℕ) (t u : Table) → Agree left t u → Agree left u t
+agree_back left t u (inl h) = inl h
+agree_back left t u (inr h) = inr (sym h)
+
+pub agree_on : (left : List ℕ) (t u v : Table) → Agree left t u → Agree left u v → Agree left t v
+agree_on left t u v (inl h) k = inl h
+agree_on left t u v (inr h) (inl k) = inl k
+agree_on left t u v (inr h) (inr k) = inr (h ∙ k)
+
+-- further on, and where fewer bytes are left
+pub agree_drop : (n : ℕ) (left : List ℕ) (t u : Table) → Agree left t u → Agree (drop n left) t u
+agree_drop n left t u (inl h) = inl (without_drop n left h)
+agree_drop n left t u (inr h) = inr h
+
+pub agree_take : (n : ℕ) (left : List ℕ) (t u : Table) → Agree left t u → Agree (take n left) t u
+agree_take n left t u (inl h) = inl (without_take n left h)
+agree_take n left t u (inr h) = inr h
 
 -- ---- from a place, with a table
 abbrev begin : Spot → Table → State
@@ -62,12 +84,13 @@ found_both a b Q x h (Meets.yes {s = s} {r = r} {b = z} n i) e =
 found_both a b Q x h (Meets.no_both i c) e = absurd (cc)
 found_both a b Q x h Meets.deep e = absurd (cc)
 
-pub same_refusals : SameRefusals
+pub same_refusals : (levels : ℕ) (row : Row) (conv : Bool) (p : Spot) (t u : Table) (k : Kind) → Agree p.left t u → cread levels row conv (here p t) [] ≡ Refused k → cread levels row conv (here p u) [] ≡ Refused k
 same_refusals levels row conv p t u k h e =
     let m = both_read levels row conv p t u h in
     sym (reads_code levels row conv (begin p u) []) ∙ refused_both m.before m.before' _ k m.meets (reads_code levels row conv (begin p t) [] ∙ e)
 
-pub same_ends : SameEnds
+pub same_ends : (levels : ℕ) (row : Row) (conv : Bool) (p : Spot) (t u : Table) (x : Core) (h : Here) → Agree p.left t u → cread levels row conv (here p t) [] ≡ Found x h
+    → (y : Core) × (g : Here) × (cread levels row conv (here p u) [] ≡ Found y g) × (g.spot ≡ h.spot) × Agree g.spot.left h.table g.table
 same_ends levels row conv p t u x h a e =
     let m = both_read levels row conv p t u a in
     let f = found_both m.before m.before' _ x h m.meets (reads_code levels row conv (begin p t) [] ∙ e) in

@@ -1,12 +1,12 @@
 -- Two readings side by side: from one place, behind two tables whose later parts have one outline.
-use Rattle.std.specs.Prelude.{◌⊎◌, ◌≡◌, ℕ, zero, suc, ◌+◌, ◌<◌, Bool, true, false, not, ◌&&◌, List, [], ◌∷◌, ◌++◌, length, take, drop, ◌==◌, nat_lt, Option, Some, None, slice_get}
+use Rattle.std.specs.Prelude.{◌⊎◌, ◌≡◌, ℕ, zero, suc, ◌+◌, Bool, true, false, not, List, [], ◌∷◌, ◌++◌, length, take, drop, ◌==◌, Option, slice_get}
 use Rattle.std.proofs.Common.{refl, ap, sym, subst, ◌∙◌, arith, append_assoc, inl, inr}
 use Rattle.std.proofs.lemmas.Bool.{eqb-true}
-use Rattle.demangle_core.specs.Core.{Core, end, Which, N, U, same_which}
+use Rattle.demangle_core.specs.Core.{Core, Which, N, U, same_which}
 use Rattle.demangle_core.specs.Table.{Entry, count, count_if, listed, more_if, entry_at}
 use Rattle.demangle_text.specs.Word.{starts}
 use Rattle.demangle_grammar.specs.Fits.{AllOf}
-use Rattle.demangle_grammar.specs.Reading.{State, or_end, entry_of, prefix_entry, last_component, is_nestable, kept, ahead_by, widened}
+use Rattle.demangle_grammar.specs.Reading.{State, or_end, entry_of, prefix_entry, is_nestable, kept, ahead_by, widened}
 use Rattle.demangle_grammar.proofs.Truth.{both_true}
 use Rattle.demangle_outline.specs.Outline.{outline, Agree}
 use Rattle.demangle_outline.proofs.Alike.{Both, Alike, Last, last_same}
@@ -87,12 +87,12 @@ count_behind (x ∷ t) e w = by (same_which w x.which) (count_behind t e w)
 abbrev pub IsWithout : List ℕ → Type 0
 IsWithout bs = AllOf (λ b. not (b == 83)) bs
 
-without_drop : (n : ℕ) (bs : List ℕ) → IsWithout bs → IsWithout (drop n bs)
+pub without_drop : (n : ℕ) (bs : List ℕ) → IsWithout bs → IsWithout (drop n bs)
 without_drop zero bs h = h
 without_drop (suc n) [] h = tt
 without_drop (suc n) (b ∷ bs) h = without_drop n bs h.1
 
-without_take : (n : ℕ) (bs : List ℕ) → IsWithout bs → IsWithout (take n bs)
+pub without_take : (n : ℕ) (bs : List ℕ) → IsWithout bs → IsWithout (take n bs)
 without_take zero bs h = tt
 without_take (suc n) [] h = tt
 without_take (suc n) (b ∷ bs) h = (h.0, without_take n bs h.1)
