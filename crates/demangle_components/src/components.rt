@@ -8,7 +8,7 @@ ghost use Rattle.demangle_core.specs.Same.{same_tables_equiv};
 ghost use Rattle.demangle_core.specs.Table.{added, cut, empty_table, entry_at, listed, numbered, same_tables, size};
 ghost use Rattle.demangle_core.specs.Table.{sizes};
 ghost use Rattle.demangle_text.specs.declared.error.Error.TheVariants.{OutOfMemory};
-ghost use Rattle.demangle_components.specs.View.{Climb, Rise, Rise-prop};
+ghost use Rattle.demangle_components.specs.View.{Climb, Rise, Rise-prop, table_from};
 
 use crate::component::{Component, CopyComponent};
 use std::alloc::Global;
@@ -153,6 +153,13 @@ impl<T: Component> Components<T> {
         ensures { option_map (λ x. T.tree x.now) result ≡ entry_at U idx (table_of T.tree self.now) }
     {
         self.others.get(idx)
+    }
+
+    /// The numbered components, the others, and for each of the others how many numbered ones stood at its insertion.
+    pub fn lists(&self) -> (&[T], &[T], &[usize])
+        ensures { table_from T.tree result.0.now result.1.now result.2.now ≡ table_of T.tree self.now }
+    {
+        (&self.numbered, &self.others, &self.numbered_before)
     }
 
     /// How many numbered components and how many others there are.

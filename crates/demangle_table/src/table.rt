@@ -4,6 +4,7 @@ ghost use Rattle.std.specs.Prelude.{◌≡◌, ◌+◌, ◌-◌, ◌<◌, map, I
 ghost use Rattle.std.specs.Prelude.{option_map, ◌↔◌};
 ghost use Rattle.std.specs.Cmp.{on_equiv, on_per, partial_equiv_from_equiv};
 ghost use Rattle.std.specs.Slice.Iter.{iter_rest};
+ghost use Rattle.demangle_components.specs.View.{table_from};
 ghost use Rattle.demangle_core.specs.Core.{N, U};
 ghost use Rattle.demangle_core.specs.Same.{same_tables_equiv};
 ghost use Rattle.demangle_core.specs.Table.{added, cut, empty_table, entry_at, listed, numbered, same_tables, size};
@@ -131,6 +132,14 @@ impl SubstitutionTable {
         ensures { option_map (λ x. tree_of_substitutable x.now) result ≡ entry_at U idx (table_of self.now) }
     {
         self.components.get_other(idx)
+    }
+
+    /// The numbered components, the others, and for each of the others how many numbered ones stood at its insertion. An
+    /// addition to the original.
+    pub fn lists(&self) -> (&[Substitutable], &[Substitutable], &[usize])
+        ensures { table_from tree_of_substitutable result.0.now result.1.now result.2.now ≡ table_of self.now }
+    {
+        self.components.lists()
     }
 
     /// How many numbered components and how many others there are. An addition to the original.
