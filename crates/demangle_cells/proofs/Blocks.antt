@@ -9,7 +9,7 @@ use Rattle.demangle_cells.specs.Cells.{plain_tree}
 use Rattle.demangle_cells.specs.Behind.{is_known, is_kept, is_behind, all_behind}
 use Rattle.demangle_cells.specs.Fixed.{fixed, constant, block_tree, builtin_tree, number_of_table, qualifiers_tree}
 use Rattle.demangle_cells.specs.Fixed.{first_cell, first_reference, first_other}
-use Rattle.demangle_cells.specs.View.{View, Holds}
+use Rattle.demangle_cells.specs.Stored.{View, Holds}
 use Rattle.demangle_cells.specs.declared.plain.Plain.{Plain}
 use Rattle.demangle_cells.specs.declared.constants.WordTable.{WordTable}
 use Rattle.demangle_cells.specs.declared.constants.WordTable.TheVariants as of_table
@@ -242,6 +242,17 @@ other_fixed F v k h x =
     let a : nat_lt k first_cell ≡ false = grind (arith, h) in
     let b : nat_lt k first_other ≡ false = grind (arith, h) in
     x.references k (omega (arith, h)) ∙ rw (a, b) refl
+
+pub reference_is : (F : ℕ → Core) (v : View) (n k : ℕ) → n < first_reference → k ≡ first_reference + n → Holds F v
+    → F k ≡ reference N n
+reference_is F v n k h e x =
+    let m : k - first_reference ≡ n = omega (arith, e) in
+    reference_fixed F v k (omega (arith, e)) (omega (arith, e, h)) x ∙ ap (reference N) m
+
+pub other_is : (F : ℕ → Core) (v : View) (n k : ℕ) → k ≡ first_other + n → Holds F v → F k ≡ reference U n
+other_is F v n k e x =
+    let m : k - first_other ≡ n = omega (arith, e) in
+    other_fixed F v k (omega (arith, e)) x ∙ ap (reference U) m
 
 pub none_beside : (k : ℕ) → first_cell ≤ k → k < first_reference → is_known first_cell k ≡ false
 none_beside k h l =

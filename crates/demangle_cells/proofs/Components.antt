@@ -7,7 +7,7 @@ use Rattle.demangle_core.specs.Table.{size, added, count, listed, entry_at}
 use Rattle.demangle_grammar.specs.Tree.{reference}
 use Rattle.demangle_cells.specs.Fixed.{fixed, first_cell, first_reference, first_other}
 use Rattle.demangle_cells.specs.Entries.{ids_of, more_if, same_kind}
-use Rattle.demangle_cells.specs.View.{View, Holds, table, entry, which_of}
+use Rattle.demangle_cells.specs.Stored.{View, Holds, table, entry, which_of}
 use Rattle.demangle_cells.specs.declared.entry.Entry as made
 use Rattle.demangle_cells.proofs.Lists.{map_last, append_none}
 

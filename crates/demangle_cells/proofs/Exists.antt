@@ -9,7 +9,7 @@ use Rattle.demangle_cells.specs.Fixed.{fixed, first_cell, first_reference}
 use Rattle.demangle_cells.specs.Cells.{plain_tree, row, span, holds_from}
 use Rattle.demangle_cells.specs.Behind.{is_known, all_known, is_behind, all_behind}
 use Rattle.demangle_cells.specs.Model.{valued, values, model}
-use Rattle.demangle_cells.specs.View.{View, Holds}
+use Rattle.demangle_cells.specs.Stored.{View, Holds}
 use Rattle.demangle_cells.specs.declared.plain.Plain.{Plain}
 use Rattle.demangle_cells.specs.declared.plain.Plain.TheVariants as of_plain
 

@@ -6,7 +6,7 @@ use Rattle.demangle_core.specs.Core.{Core}
 use Rattle.demangle_cells.specs.Fixed.{first_cell}
 use Rattle.demangle_cells.specs.Cells.{plain_tree, holds_from}
 use Rattle.demangle_cells.specs.Entries.{ids_of}
-use Rattle.demangle_cells.specs.View.{View, Holds, table, entry, Grown, KeepsTrees, IsMark, FitsMark, IsCut}
+use Rattle.demangle_cells.specs.Stored.{View, Holds, table, entry, Grown, KeepsTrees, IsMark, FitsMark, IsCut}
 use Rattle.demangle_cells.specs.declared.plain.Plain.{Plain}
 use Rattle.demangle_cells.specs.declared.entry.Entry as made
 use Rattle.demangle_cells.specs.declared.entry.Mark as mark

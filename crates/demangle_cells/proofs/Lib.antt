@@ -6,3 +6,7 @@ pub mod Waits
 pub mod Components
 pub mod Blocks
 pub mod Exists
+pub mod Sets
+pub mod Stamps
+pub mod Levels
+pub mod Memos

@@ -7,7 +7,7 @@ use Rattle.demangle_cells.specs.Tags.{tag_of}
 use Rattle.demangle_cells.specs.Fixed.{first_cell}
 use Rattle.demangle_cells.specs.Cells.{plain_tree, row, span, holds_from}
 use Rattle.demangle_cells.specs.Behind.{all_known, is_behind, all_behind}
-use Rattle.demangle_cells.specs.View.{View, Holds, table, entry, Grown, Waited, since, KeepsTrees, IsMark, IsCut}
+use Rattle.demangle_cells.specs.Stored.{View, Holds, table, entry, Grown, Waited, since, KeepsTrees, IsMark, IsCut}
 use Rattle.demangle_cells.specs.declared.plain.Plain.{Plain}
 use Rattle.demangle_cells.specs.declared.tag.Tag.{Tag}
 use Rattle.demangle_cells.specs.declared.entry.Mark as mark

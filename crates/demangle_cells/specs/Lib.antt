@@ -4,6 +4,8 @@ pub mod Cells
 pub mod Behind
 pub mod Entries
 pub mod Held
+pub mod Stored
 pub mod View
 pub mod Model
+pub mod Memo
 pub mod Reads

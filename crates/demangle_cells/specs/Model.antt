@@ -4,7 +4,7 @@ use Rattle.std.proofs.Common.{get_or}
 use Rattle.demangle_core.specs.Core.{Core, end}
 use Rattle.demangle_cells.specs.Fixed.{fixed, first_cell, first_reference}
 use Rattle.demangle_cells.specs.Cells.{plain_tree}
-use Rattle.demangle_cells.specs.View.{View}
+use Rattle.demangle_cells.specs.Stored.{View}
 use Rattle.demangle_cells.specs.declared.plain.Plain.{Plain}
 
 -- what an index stands for, where the values of the first cells are given

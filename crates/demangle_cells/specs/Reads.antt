@@ -10,7 +10,7 @@ use Rattle.demangle_core.specs.Core.{Core, Tag, node}
 use Rattle.demangle_grammar.specs.Rule.{Row}
 use Rattle.demangle_grammar.specs.Code.{here, Here, Reply, Found, Refused, Out, Yes, No, cread}
 use Rattle.demangle_cells.specs.Cells.{row}
-use Rattle.demangle_cells.specs.View.{View, Holds, table, since}
+use Rattle.demangle_cells.specs.Stored.{View, Holds, table, since}
 use Rattle.demangle_cells.specs.declared.text.Text.{Text}
 use Rattle.demangle_cells.specs.declared.text.Part as part
 

@@ -1,179 +1,77 @@
-//! The arena: cells, and what of a name is kept beside them.
+//! The arena: the trees of a name, and a memo of what was read before.
 
-ghost use Rattle.std.specs.Prelude.{◌≡◌, ◌≤◌, ◌+◌, ◌^◌, ◌<◌, [], ◌∷◌, true, false, length, take, drop, ℕ, IfOk, IfErr};
-ghost use Rattle.std.specs.Prelude.{OnErr, OnOk, IfSome};
-ghost use Rattle.demangle_cells.specs.Fixed.{first_cell, first_reference};
-ghost use Rattle.demangle_cells.specs.Behind.{all_behind};
-ghost use Rattle.demangle_cells.specs.Entries.{ids_of};
-ghost use Rattle.demangle_cells.specs.Held.{held};
+ghost use Rattle.std.specs.Prelude.{◌≡◌, ◌≤◌, ◌+◌, ◌-◌, ◌<◌, ◌++◌, [], ◌∷◌, true, false, length, take, drop, ℕ};
+ghost use Rattle.std.specs.Prelude.{IfErr, IfOk, IfSome, List, MatchOption, OnErr, OnOk, nat_lt, option_map, slice_get};
+ghost use Rattle.demangle_cells.specs.Stored.{stored};
+ghost use Rattle.demangle_cells.specs.Memo.{IsMemo, memory};
 
+use crate::asked::{Key, Known, Outcome, RowName};
+use crate::bytes::{has_no_reference, is_of_bytes};
 use crate::cell::{Cell, ListOf};
-use crate::constant_cells::beside_cells;
-use crate::constants::empty_id;
+use crate::depth::Depth;
 use crate::entry::{Entry, Mark};
+use crate::memo::Memo;
+use crate::path::follow;
 use crate::plain::Plain;
-use crate::room::Room;
-use crate::tag::Tag;
-use crate::text::Part;
+use crate::store::Store;
+use crate::text::{Part, Text};
 use demangle_text::{Error, Result};
 use std::alloc::Global;
 
-/// The index of the first cell; those below are constant trees.
-pub const FIRST_CELL: u32 = 2304;
-
-/// The index of the reference to the first numbered component.
-pub const FIRST_REFERENCE: u32 = 1 << 30;
-
-/// The index of the reference to the first of the other components.
-pub const FIRST_OTHER: u32 = 1 << 31;
-
-/// The trees of a name: cells that never change, and lists of indexes that they name; the components so far; and the
-/// indexes that wait to become a list.
+/// The trees of a name, its components so far, the indexes that wait to become a list; and a memo of what was read
+/// before, which changes no answer.
 #[derive(Drop)]
 pub struct Arena {
-    cells: Room<Plain>,
-    list: Room<u32>,
-    entries: Room<Entry>,
-    numbered: Room<u32>,
-    others: Room<u32>,
-    waiting: Room<u32>,
-    ghost few: { first_cell + length (held cells) ≤ first_reference },
-    ghost short: { length (held list) < 2 ^ 32 },
-    ghost behind: { all_behind first_cell (held list) (held cells) ≡ true },
-    ghost those_numbered: { held numbered ≡ ids_of true (held entries) },
-    ghost the_others: { held others ≡ ids_of false (held entries) },
+    store: Store,
+    memo: Memo,
+    ghost kept: { ∥ IsMemo (stored store) (memory memo) ∥₁ },
 }
 
 impl Arena {
     ghost use Rattle.demangle_text.specs.declared.error.Error.TheVariants.{OutOfMemory};
-    ghost use Rattle.demangle_core.specs.Core.{Core, N, U, end, node, number, place};
+    ghost use Rattle.demangle_core.specs.Core.{Core, N, U};
     ghost use Rattle.demangle_core.specs.Table.{added, entry_at, size};
-    ghost use Rattle.demangle_cells.specs.Behind.{is_known, is_kept, is_behind, all_known};
-    ghost use Rattle.demangle_cells.specs.Reads.{Gathers};
-    ghost use Rattle.std.specs.Prelude.{◌++◌, false, nat_lt, pos, List, MatchOption, option_map};
     ghost use Rattle.demangle_grammar.specs.Tree.{reference};
-    ghost use Rattle.demangle_cells.specs.View.{view, Holds, table, Grown, IsMark, FitsMark, IsCut, KeepsTrees};
+    ghost use Rattle.demangle_cells.specs.Behind.{is_behind, is_kept, is_known};
+    ghost use Rattle.demangle_cells.specs.Cells.{list_tree, plain_tree, row, span, tree};
+    ghost use Rattle.demangle_cells.specs.Fixed.{absent, first_cell};
+    ghost use Rattle.demangle_cells.specs.Held.{held};
+    ghost use Rattle.demangle_cells.specs.Memo.{row_of, stamp_at};
+    ghost use Rattle.demangle_cells.specs.Reads.{Gathers, ReadsRow};
+    ghost use Rattle.demangle_grammar.specs.Fits.{AllOf};
+    ghost use Rattle.demangle_text.specs.Kind.{ends, kind};
+    ghost use Rattle.std.specs.Prelude.{◌==◌, Err, Ok, not};
+    ghost use Rattle.demangle_cells.specs.View.{FitsMark, Grown, Holds, IsCut, IsMark, KeepsTrees, View, table, view};
     ghost use Rattle.demangle_cells.specs.View.{which_of};
-    ghost use Rattle.demangle_cells.specs.Tags.{tag_of};
-    ghost use Rattle.demangle_cells.specs.Fixed.{absent};
-    ghost use Rattle.demangle_cells.specs.Cells.{tree, plain_tree, row, list_tree, span};
 
     /// An arena without cells. It takes no memory.
-    #[tactic(auto, unfolding(crate::specs::View::view))]
+    #[tactic(auto, using(crate::proofs::Memos::memos), unfolding(crate::specs::View::view))]
     pub fn new(alloc: Global) -> Arena
         ensures cells { (view result).cells ≡ [] }
         ensures entries { (view result).entries ≡ [] }
         ensures waiting { (view result).waiting ≡ [] }
     {
         Arena {
-            cells: Room::new(alloc),
-            list: Room::new(alloc),
-            entries: Room::new(alloc),
-            numbered: Room::new(alloc),
-            others: Room::new(alloc),
-            waiting: Room::new(alloc),
+            store: Store::new(alloc),
+            memo: Memo::new(alloc),
         }
     }
 
-    /// Without cells, components and waiting indexes, for another name; the room is kept.
-    #[tactic(auto, unfolding(crate::specs::View::view))]
+    /// Without cells, components, waiting indexes and memo, for another name; the room is kept.
+    #[tactic(auto, using(crate::proofs::Memos::memos), unfolding(crate::specs::View::view))]
     pub fn clear(&mut self)
         ensures cells { (view self.new).cells ≡ [] }
         ensures entries { (view self.new).entries ≡ [] }
         ensures waiting { (view self.new).waiting ≡ [] }
     {
-        self.cells.truncate(0);
-        self.list.truncate(0);
-        self.entries.truncate(0);
-        self.numbered.truncate(0);
-        self.others.truncate(0);
-        self.waiting.truncate(0);
-    }
-
-    /// The index of the next cell.
-    #[tactic(auto, unfolding(crate::specs::View::view))]
-    fn next(&self) -> u32
-        ensures { result ≡ first_cell + length (held self.now.cells) }
-    {
-        FIRST_CELL + self.cells.len() as u32
-    }
-
-    /// Whether it is the index of a cell or of a constant tree.
-    #[inline(always)]
-    #[tactic(auto, unfolding(crate::specs::View::view))]
-    fn knows(&self, id: u32) -> bool
-        ensures { result ≡ is_known (first_cell + length (held self.now.cells)) id }
-    {
-        id < self.next() || id >= FIRST_REFERENCE
-    }
-
-    /// Whether the parts of a cell are known.
-    #[inline(always)]
-    #[tactic(auto, unfolding(crate::specs::View::view))]
-    fn has_parts(&self, cell: Plain) -> bool
-        ensures { result ≡ true
-            → is_behind (first_cell + length (held self.now.cells)) (held self.now.list) cell ≡ true }
-    {
-        match cell {
-            Plain::One(_, a) | Plain::Arguments(_, a) => self.knows(a),
-            Plain::Two(_, a, b) => self.knows(a) && self.knows(b),
-            Plain::Three(_, a, b, c) => self.knows(a) && self.knows(b) && self.knows(c),
-            Plain::Many(_, _, _) => false,
-            _ => true,
-        }
-    }
-
-    /// One cell more, and its index. Where the parts are no known indexes, or there are 2^30 cells, it is
-    /// `OutOfMemory`.
-    #[inline(always)]
-    #[tactic(auto, using(crate::proofs::Grows::pushes), unfolding(crate::specs::View::view))]
-    fn keep(&mut self, cell: Plain) -> Result<u32>
-        ensures grown { Grown (view self.old) (view self.new) }
-        ensures entries { (view self.new).entries ≡ (view self.old).entries }
-        ensures made { IfOk result (λ i. (F : ℕ → Core) → Holds F (view self.new)
-            → F i ≡ plain_tree F (view self.new).list cell) }
-        ensures refused { IfErr result (λ e. e ≡ OutOfMemory) }
-    {
-        if self.next() >= FIRST_REFERENCE || !self.has_parts(cell) {
-            return Err(Error::OutOfMemory);
-        }
-        let id = self.next();
-        self.cells.push(cell)?;
-        Ok(id)
-    }
-
-    /// A node that is a place in the input alone, and its index.
-    #[inline(always)]
-    #[tactic(auto, using(crate::proofs::Grows::grows))]
-    fn keep_text(&mut self, tag: Tag, start: u32, stop: u32) -> Result<u32>
-        ensures grown { Grown (view self.old) (view self.new) }
-        ensures entries { (view self.new).entries ≡ (view self.old).entries }
-        ensures made { IfOk result (λ i. (F : ℕ → Core) → Holds F (view self.new)
-            → F i ≡ node (tag_of tag) (place start stop end) end) }
-        ensures refused { IfErr result (λ e. e ≡ OutOfMemory) }
-    {
-        let part = self.keep(Plain::Place(start, stop))?;
-        self.keep(Plain::One(tag, part))
-    }
-
-    /// A node that is a number alone, and its index.
-    #[inline(always)]
-    #[tactic(auto, using(crate::proofs::Grows::grows))]
-    fn keep_count(&mut self, tag: Tag, value: usize) -> Result<u32>
-        ensures grown { Grown (view self.old) (view self.new) }
-        ensures entries { (view self.new).entries ≡ (view self.old).entries }
-        ensures made { IfOk result (λ i. (F : ℕ → Core) → Holds F (view self.new)
-            → F i ≡ node (tag_of tag) (number (pos value) end) end) }
-        ensures refused { IfErr result (λ e. e ≡ OutOfMemory) }
-    {
-        let part = self.keep(Plain::Counted(value))?;
-        self.keep(Plain::One(tag, part))
+        self.store.clear();
+        self.memo.clear();
     }
 
     /// One tree more, and its index. Where the parts are no known indexes, or there are 2^30 cells, it is
     /// `OutOfMemory`.
     #[inline(always)]
-    #[tactic(auto, using(crate::proofs::Grows::pushes))]
+    #[tactic(auto, using(crate::proofs::Memos::memos), unfolding(crate::specs::View::view))]
     pub fn push(&mut self, cell: Cell) -> Result<u32>
         ensures grown { Grown (view self.old) (view self.new) }
         ensures table { (F : ℕ → Core) → table F (view self.new) ≡ table F (view self.old) }
@@ -181,22 +79,12 @@ impl Arena {
             → F i ≡ tree F (view self.new).list cell) }
         ensures refused { IfErr result (λ e. e ≡ OutOfMemory) }
     {
-        match cell {
-            Cell::Empty(tag) => self.keep(Plain::Empty(tag)),
-            Cell::One(tag, a) => self.keep(Plain::One(tag, a)),
-            Cell::Two(tag, a, b) => self.keep(Plain::Two(tag, a, b)),
-            Cell::Three(tag, a, b, c) => self.keep(Plain::Three(tag, a, b, c)),
-            Cell::Text(tag, start, stop) => self.keep_text(tag, start, stop),
-            Cell::Count(tag, number) => self.keep_count(tag, number),
-            Cell::Place(start, stop) => self.keep(Plain::Place(start, stop)),
-            Cell::Number(number) => self.keep(Plain::Number(number)),
-            Cell::Counted(number) => self.keep(Plain::Counted(number)),
-            Cell::EmptyList(tag) => self.keep(Plain::One(tag, empty_id())),
-        }
+        self.store.push(cell)
     }
 
     /// One component more, and the index of the reference to it.
-    #[tactic(auto, unfolding(crate::specs::View::view))]
+    #[inline(always)]
+    #[tactic(auto, using(crate::proofs::Memos::memos), unfolding(crate::specs::View::view))]
     pub fn add(&mut self, numbered: bool, id: u32) -> Result<u32>
         ensures grown { Grown (view self.old) (view self.new) }
         ensures reference { IfOk result (λ r. (F : ℕ → Core) → Holds F (view self.new)
@@ -205,62 +93,34 @@ impl Arena {
             → table F (view self.new) ≡ added (which_of numbered) (F id) (table F (view self.old))) }
         ensures refused { IfErr result (λ e. e ≡ OutOfMemory) }
     {
-        if numbered {
-            self.add_numbered(id)
-        } else {
-            self.add_other(id)
-        }
+        let stamp = self.memo.note(self.store.count(), numbered, id)?;
+        self.add_stamped(stamp, numbered, id)
     }
 
-    /// A numbered component more.
-    #[tactic(auto, using(crate::proofs::Grows::pushes, crate::proofs::Components::parts), unfolding(crate::specs::View::view))]
-    fn add_numbered(&mut self, id: u32) -> Result<u32>
+    /// One component more, of a stamp that tells it.
+    #[tactic(auto, using(crate::proofs::Memos::memos), unfolding(crate::specs::View::view))]
+    fn add_stamped(&mut self, stamp: u32, numbered: bool, id: u32) -> Result<u32>
+        requires positive { 0 < stamp }
+        requires told { slice_get (memory self.old.memo).log (stamp - 1) ≡ Some (record {
+          before = stamp_at (length (view self.old).entries) (memory self.old.memo).stamps;
+          numbered = numbered;
+          id = id;
+        }) }
         ensures grown { Grown (view self.old) (view self.new) }
         ensures reference { IfOk result (λ r. (F : ℕ → Core) → Holds F (view self.new)
-            → F r ≡ reference N (size N (table F (view self.old)))) }
+            → F r ≡ reference (which_of numbered) (size (which_of numbered) (table F (view self.old)))) }
         ensures added { OnOk result ((F : ℕ → Core)
-            → table F (view self.new) ≡ added N (F id) (table F (view self.old))) }
+            → table F (view self.new) ≡ added (which_of numbered) (F id) (table F (view self.old))) }
         ensures refused { IfErr result (λ e. e ≡ OutOfMemory) }
+        ensures log { (memory self.new.memo).log ≡ (memory self.old.memo).log }
     {
-        let number = self.numbered.len();
-        if number >= FIRST_REFERENCE as usize {
-            return Err(Error::OutOfMemory);
-        }
-        let count = self.entries.len();
-        self.entries.push(Entry { numbered: true, id })?;
-        match self.numbered.push(id) {
-            Ok(()) => Ok(FIRST_REFERENCE + number as u32),
-            Err(_) => {
-                self.entries.truncate(count);
-                Err(Error::OutOfMemory)
-            }
-        }
-    }
-
-    /// Another component more.
-    #[tactic(auto, using(crate::proofs::Grows::pushes, crate::proofs::Components::parts), unfolding(crate::specs::View::view))]
-    fn add_other(&mut self, id: u32) -> Result<u32>
-        ensures grown { Grown (view self.old) (view self.new) }
-        ensures reference { IfOk result (λ r. (F : ℕ → Core) → Holds F (view self.new)
-            → F r ≡ reference U (size U (table F (view self.old)))) }
-        ensures added { OnOk result ((F : ℕ → Core)
-            → table F (view self.new) ≡ added U (F id) (table F (view self.old))) }
-        ensures refused { IfErr result (λ e. e ≡ OutOfMemory) }
-    {
-        let number = self.others.len();
-        if number >= FIRST_REFERENCE as usize {
-            return Err(Error::OutOfMemory);
-        }
-        let count = self.entries.len();
-        self.entries.push(Entry {
-            numbered: false,
-            id,
-        })?;
-        match self.others.push(id) {
-            Ok(()) => Ok(FIRST_OTHER + number as u32),
-            Err(_) => {
-                self.entries.truncate(count);
-                Err(Error::OutOfMemory)
+        let count = self.memo.stamps.len();
+        self.memo.stamps.push(stamp)?;
+        match self.store.add(numbered, id) {
+            Ok(reference) => Ok(reference),
+            Err(error) => {
+                self.memo.stamps.truncate(count);
+                Err(error)
             }
         }
     }
@@ -270,30 +130,33 @@ impl Arena {
     pub fn mark(&self) -> Mark
         ensures { IsMark (view self.now) result }
     {
-        Mark {
-            entries: self.entries.len(),
-            numbered: self.numbered.len(),
-            others: self.others.len(),
-        }
+        self.store.mark()
+    }
+
+    /// The components, in the order in which they were completed.
+    #[tactic(auto, unfolding(crate::specs::View::view))]
+    pub fn entries(&self) -> &[Entry]
+        ensures { result.now ≡ (view self.now).entries }
+    {
+        self.store.entries()
     }
 
     /// Cuts the components back to as many as there were.
-    #[tactic(auto, using(crate::proofs::Components::ids_taken), unfolding(crate::specs::View::view))]
+    #[tactic(auto, using(crate::proofs::Memos::memos), unfolding(crate::specs::View::view))]
     pub fn cut_back(&mut self, mark: Mark)
         requires { FitsMark (view self.old) mark }
         ensures { IsCut mark (view self.old) (view self.new) }
     {
-        self.entries.truncate(mark.entries);
-        self.numbered.truncate(mark.numbered);
-        self.others.truncate(mark.others);
+        self.memo.stamps.truncate(mark.entries);
+        self.store.cut_back(mark);
     }
 
     /// Whether there is a numbered component of this number.
-    #[tactic(auto, using(crate::proofs::Components::has_of_size), unfolding(crate::specs::View::view))]
+    #[tactic(auto, unfolding(crate::specs::View::view))]
     pub fn has_numbered(&self, number: usize) -> bool
         ensures { (F : ℕ → Core) → result ≡ nat_lt number (size N (table F (view self.now))) }
     {
-        number < self.numbered.len()
+        self.store.has_numbered(number)
     }
 
     /// How many indexes wait.
@@ -301,19 +164,18 @@ impl Arena {
     pub fn waiting(&self) -> usize
         ensures { result ≡ length (view self.now).waiting }
     {
-        self.waiting.len()
+        self.store.waiting()
     }
 
     /// One index more that waits to become a list.
-    #[tactic(auto, using(crate::proofs::Grows::all_same), unfolding(crate::specs::View::view))]
+    #[tactic(auto, using(crate::proofs::Memos::memos), unfolding(crate::specs::View::view))]
     pub fn wait(&mut self, id: u32) -> Result<()>
         ensures kept { KeepsTrees (view self.old) (view self.new) }
         ensures waits { OnOk result ((view self.new).waiting ≡ (view self.old).waiting ++ id ∷ []) }
         ensures same { OnErr result ((view self.new).waiting ≡ (view self.old).waiting) }
         ensures refused { IfErr result (λ e. e ≡ OutOfMemory) }
     {
-        self.waiting.push(id)?;
-        Ok(())
+        self.store.wait(id)
     }
 
     /// The cell of an index; none exactly where no cell has it.
@@ -325,13 +187,13 @@ impl Arena {
         ensures found { IfSome result (λ c. is_kept (length (view self.now).cells) id ≡ true) }
         ensures lower { IfSome result (λ c. is_behind id (view self.now).list c ≡ true) }
     {
-        self.cells.get(id.wrapping_sub(FIRST_CELL) as usize)
+        self.store.kept(id)
     }
 
     /// What an index is, one step deep. Where there is no such cell and it is no constant's, it is a part that is not
     /// there.
     #[inline(always)]
-    #[tactic(auto, using(crate::proofs::Blocks::beside), unfolding(crate::specs::View::view))]
+    #[tactic(auto, unfolding(crate::specs::View::view))]
     pub fn plain(&self, id: u32) -> Plain
         ensures cell { is_known (first_cell + length (view self.now).cells) id ≡ true
             → (F : ℕ → Core) → Holds F (view self.now) → F id ≡ plain_tree F (view self.now).list result }
@@ -339,14 +201,7 @@ impl Arena {
             → (F : ℕ → Core) (list : List ℕ) → plain_tree F list result ≡ absent }
         ensures lower { is_behind id (view self.now).list result ≡ true }
     {
-        match self.kept(id) {
-            Some(cell) => cell,
-            None => {
-                // (a value of its own: so what is read of a cell doesn't pass through memory)
-                let beside = beside_cells(id);
-                beside
-            }
-        }
+        self.store.plain(id)
     }
 
     /// The same, but none exactly where there is no such cell and it is no constant's.
@@ -357,11 +212,7 @@ impl Arena {
             (λ c. (F : ℕ → Core) → Holds F (view self.now) → F id ≡ plain_tree F (view self.now).list c) }
         ensures lower { IfSome result (λ c. is_behind id (view self.now).list c ≡ true) }
     {
-        if self.knows(id) {
-            Some(self.plain(id))
-        } else {
-            None
-        }
+        self.store.cell(id)
     }
 
     /// So many indexes of the list, from a place on.
@@ -369,94 +220,30 @@ impl Arena {
     pub fn indexes(&self, start: u32, count: u32) -> &[u32]
         ensures { result.now ≡ span (view self.now).list start count }
     {
-        let rest = match self.list.items().get(start as usize..) {
-            Some(rest) => rest,
-            None => return &[],
-        };
-        match rest.get(..count as usize) {
-            Some(front) => front,
-            None => rest,
-        }
+        self.store.indexes(start, count)
     }
 
     /// The tree of a numbered component; none exactly where there is none.
     #[inline(always)]
-    #[tactic(auto, using(crate::proofs::Components::by_number), unfolding(crate::specs::View::view))]
+    #[tactic(auto, unfolding(crate::specs::View::view))]
     pub fn numbered(&self, number: u32) -> Option<u32>
         ensures { (F : ℕ → Core) → option_map F result ≡ entry_at N number (table F (view self.now)) }
     {
-        self.numbered.get(number as usize)
+        self.store.numbered(number)
     }
 
     /// The tree of another component; none exactly where there is none.
     #[inline(always)]
-    #[tactic(auto, using(crate::proofs::Components::by_number), unfolding(crate::specs::View::view))]
+    #[tactic(auto, unfolding(crate::specs::View::view))]
     pub fn other(&self, number: u32) -> Option<u32>
         ensures { (F : ℕ → Core) → option_map F result ≡ entry_at U number (table F (view self.now)) }
     {
-        self.others.get(number as usize)
-    }
-
-    /// Whether all are known.
-    fn knows_all(&self, ids: &[u32]) -> bool
-        ensures { result ≡ true → all_known (first_cell + length (held self.now.cells)) ids.now ≡ true }
-    {
-        let mut rest = ids;
-        while let [id, next @ ..] = rest {
-            if !self.knows(*id) {
-                return false;
-            }
-            rest = next;
-        }
-        true
-    }
-
-    /// A node of the indexes that wait, from a place on.
-    #[tactic(auto, using(crate::proofs::Grows::pushes), unfolding(crate::specs::View::view))]
-    fn keep_many(&mut self, from: usize, tag: Tag) -> Result<u32>
-        requires { from ≤ length (view self.old).waiting }
-        ensures kept { KeepsTrees (view self.old) (view self.new) }
-        ensures waiting { (view self.new).waiting ≡ (view self.old).waiting }
-        ensures made { IfOk result (λ i. (F : ℕ → Core) → Holds F (view self.new)
-            → F i ≡ node (tag_of tag) (row F (drop from (view self.old).waiting)) end) }
-        ensures refused { IfErr result (λ e. e ≡ OutOfMemory) }
-    {
-        let start = self.list.len();
-        let count = self.waiting.len() - from;
-        if self.next() >= FIRST_REFERENCE || count >= (1 << 32) - start {
-            return Err(Error::OutOfMemory);
-        }
-        if !self.knows_all(&self.waiting.items()[from..]) {
-            return Err(Error::OutOfMemory);
-        }
-        self.list.extend(&self.waiting.items()[from..])?;
-        let id = self.next();
-        let cell = Plain::Many(tag, start as u32, count as u32);
-        self.cells.push(cell)?;
-        Ok(id)
-    }
-
-    /// What becomes of the indexes that wait, from a place on.
-    #[tactic(auto, using(crate::proofs::Grows::grows, crate::proofs::Waits::nodes))]
-    fn listed(&mut self, from: usize, list: ListOf) -> Result<u32>
-        requires { from ≤ length (view self.old).waiting }
-        ensures kept { KeepsTrees (view self.old) (view self.new) }
-        ensures waiting { (view self.new).waiting ≡ (view self.old).waiting }
-        ensures made { IfOk result (λ i. (F : ℕ → Core) → Holds F (view self.new)
-            → F i ≡ list_tree list (row F (drop from (view self.old).waiting))) }
-        ensures refused { IfErr result (λ e. e ≡ OutOfMemory) }
-    {
-        match list {
-            ListOf::Node(tag) => self.keep_many(from, tag),
-            ListOf::Arguments(at) => {
-                let members = self.keep_many(from, Tag::Several)?;
-                self.keep(Plain::Arguments(at, members))
-            }
-        }
+        self.store.other(number)
     }
 
     /// The list of the indexes that wait, from a place on, where it was read; they wait no more.
-    #[tactic(auto, unfolding(crate::specs::View::view))]
+    #[inline(always)]
+    #[tactic(auto, using(crate::proofs::Memos::memos), unfolding(crate::specs::View::view))]
     pub fn gathered(&mut self, from: usize, list: ListOf, answer: Result<u32>) -> Result<Part>
         requires { from ≤ length (view self.old).waiting }
         ensures kept { KeepsTrees (view self.old) (view self.new) }
@@ -464,11 +251,301 @@ impl Arena {
         ensures made { Gathers answer result (λ i. (F : ℕ → Core) → Holds F (view self.new)
             → F i ≡ list_tree list (row F (drop from (view self.old).waiting))) }
     {
-        let made = match answer {
-            Ok(end) => self.listed(from, list).map(|id| Part { id, end }),
-            Err(error) => Err(error),
+        self.store.gathered(from, list, answer)
+    }
+
+    /// The stamp of the components.
+    #[tactic(auto, unfolding(crate::specs::View::view))]
+    fn stamp(&self) -> u32
+        ensures { result ≡ stamp_at (length (view self.now).entries) (memory self.now.memo).stamps }
+    {
+        self.memo.stamp(self.store.count())
+    }
+
+    /// Adds a component once more by its stamp, where its log says that it came behind these.
+    #[tactic(auto, using(crate::proofs::Memos::memos), unfolding(crate::specs::View::view))]
+    fn put_back(&mut self, stamp: u32) -> bool
+        ensures grown { Grown (view self.old) (view self.new) }
+        ensures log { (memory self.new.memo).log ≡ (memory self.old.memo).log }
+    {
+        if stamp == 0 {
+            return false;
+        }
+        match self.memo.log.get(stamp as usize - 1) {
+            Some(was) if was.before == self.stamp() => {
+                self.add_stamped(stamp, was.numbered, was.id).is_ok()
+            }
+            _ => false,
+        }
+    }
+
+    /// Adds the components between these and those of a stamp once more; whether it did.
+    #[tactic(auto, using(crate::proofs::Memos::memos), unfolding(crate::specs::View::view))]
+    fn restore(&mut self, stamp: u32) -> bool
+        ensures grown { Grown (view self.old) (view self.new) }
+        ensures log { (memory self.new.memo).log ≡ (memory self.old.memo).log }
+        ensures stamp { result ≡ true
+            → stamp ≡ stamp_at (length (view self.new).entries) (memory self.new.memo).stamps }
+    {
+        let from = self.stamp();
+        let mut left = match follow(&self.memo.log, &mut self.memo.path, stamp, from) {
+            Ok(count) => count,
+            Err(_) => return false,
         };
-        self.waiting.truncate(from);
-        made
+        while left > 0 {
+            left -= 1;
+            let next = self.memo.path.get(left).unwrap_or(0);
+            if !self.put_back(next) {
+                return false;
+            }
+        }
+        self.stamp() == stamp
+    }
+
+    /// The answer to a row that was read before, at this place of this text, with no more levels, and with the same
+    /// components, or with any where it was refused and no `S` is left; the components that came with it come once
+    /// more. None where none is kept; nothing changes then.
+    #[inline(always)]
+    #[tactic(auto, using(crate::proofs::Memos::memos), unfolding(crate::specs::View::view))]
+    pub fn recall(
+        &mut self,
+        row: RowName,
+        depth: Depth,
+        text: Text<'_>,
+        at: u32,
+    ) -> Option<Result<Part>>
+        ensures grown { Grown (view self.old) (view self.new) }
+        ensures answer { MatchOption result (view self.new ≡ view self.old)
+            (λ answer. ReadsRow (row_of row) depth.levels depth.conversion text.entry at answer
+            (view self.old) (view self.new)) }
+    {
+        self.memo.rows = self.memo.rows.saturating_add(1);
+        if self.memo.is_late(text.bytes.len()) {
+            self.recalled(row, depth, text, at)
+        } else {
+            None
+        }
+    }
+
+    /// The same, once what rows answer is kept.
+    #[inline(never)]
+    #[tactic(auto, using(crate::proofs::Memos::memos), unfolding(crate::specs::View::view))]
+    fn recalled(
+        &mut self,
+        row: RowName,
+        depth: Depth,
+        text: Text<'_>,
+        at: u32,
+    ) -> Option<Result<Part>>
+        ensures grown { Grown (view self.old) (view self.new) }
+        ensures answer { MatchOption result (view self.new ≡ view self.old)
+            (λ answer. ReadsRow (row_of row) depth.levels depth.conversion text.entry at answer
+            (view self.old) (view self.new)) }
+    {
+        if !self.memo.is_for(text.bytes) {
+            return None;
+        }
+        if has_no_reference(text.rest(at)) {
+            return self.refused(row, depth, text, at);
+        }
+        self.answered(row, depth, text, at)
+    }
+
+    /// The refusal of a row behind which no `S` is left, whatever the components are; else its answer with these.
+    #[tactic(auto, using(crate::proofs::Memos::memos), unfolding(crate::specs::View::view))]
+    fn refused(
+        &mut self,
+        row: RowName,
+        depth: Depth,
+        text: Text<'_>,
+        at: u32,
+    ) -> Option<Result<Part>>
+        requires bytes { (memory self.old.memo).text ≡ text.bytes.now }
+        requires alone { AllOf (λ b. not (b == 83)) (drop at text.bytes.now) }
+        ensures grown { Grown (view self.old) (view self.new) }
+        ensures answer { MatchOption result (view self.new ≡ view self.old)
+            (λ answer. ReadsRow (row_of row) depth.levels depth.conversion text.entry at answer
+            (view self.old) (view self.new)) }
+    {
+        let key = Key {
+            row,
+            at,
+            conversion: depth.conversion,
+            before: 0,
+        };
+        match self.memo.refusal(key, depth.levels) {
+            Some(error) => Some(Err(error)),
+            None => self.answered(row, depth, text, at),
+        }
+    }
+
+    /// The answer with these components.
+    #[tactic(auto, using(crate::proofs::Memos::memos), unfolding(crate::specs::View::view))]
+    fn answered(
+        &mut self,
+        row: RowName,
+        depth: Depth,
+        text: Text<'_>,
+        at: u32,
+    ) -> Option<Result<Part>>
+        requires bytes { (memory self.old.memo).text ≡ text.bytes.now }
+        ensures grown { Grown (view self.old) (view self.new) }
+        ensures answer { MatchOption result (view self.new ≡ view self.old)
+            (λ answer. ReadsRow (row_of row) depth.levels depth.conversion text.entry at answer
+            (view self.old) (view self.new)) }
+    {
+        let key = Key {
+            row,
+            at,
+            conversion: depth.conversion,
+            before: self.stamp(),
+        };
+        let known = self.memo.find(key, depth.levels)?;
+        match known.outcome {
+            Outcome::Refused(error) => Some(Err(error)),
+            Outcome::Found(part, behind) => {
+                if self.restore(behind) {
+                    Some(Ok(part))
+                } else {
+                    Some(Err(Error::OutOfMemory))
+                }
+            }
+        }
+    }
+
+    /// Keeps the answer to a row that was read, with the mark of the components before it.
+    #[inline(always)]
+    #[tactic(auto, using(crate::proofs::Memos::memos), unfolding(crate::specs::View::view))]
+    pub fn remember(
+        &mut self,
+        row: RowName,
+        mark: Mark,
+        depth: Depth,
+        text: Text<'_>,
+        at: u32,
+        answer: &Result<Part>,
+    )
+        requires { (before : View) × ((IsMark before mark) × (Grown before (view self.old))
+            × (ReadsRow (row_of row) depth.levels depth.conversion text at answer.now before (view self.old))) }
+        ensures { view self.new ≡ view self.old }
+    {
+        if self.memo.is_late(text.bytes.len()) {
+            match answer {
+                Ok(part) => self.keep_part(row, mark, depth, text, at, *part),
+                Err(error) => self.keep_refusal(row, mark, depth, text, at, *error),
+            }
+        }
+    }
+
+    /// Keeps what was found.
+    #[inline(never)]
+    #[tactic(auto, using(crate::proofs::Memos::memos), unfolding(crate::specs::View::view))]
+    fn keep_part(
+        &mut self,
+        row: RowName,
+        mark: Mark,
+        depth: Depth,
+        text: Text<'_>,
+        at: u32,
+        part: Part,
+    )
+        requires { (before : View) × ((IsMark before mark) × (Grown before (view self.old))
+            × (ReadsRow (row_of row) depth.levels depth.conversion text at (Ok part) before (view self.old))) }
+        ensures { view self.new ≡ view self.old }
+    {
+        if !self.memo.is_for(text.bytes) {
+            return;
+        }
+        let key = Key {
+            row,
+            at,
+            conversion: depth.conversion,
+            before: self.memo.stamp(mark.entries),
+        };
+        let behind = self.stamp();
+        self.memo.put(Known {
+            key,
+            levels: depth.levels,
+            outcome: Outcome::Found(part, behind),
+        });
+    }
+
+    /// Keeps why nothing was found, unless no level was left or no memory.
+    #[inline(never)]
+    #[tactic(auto, using(crate::proofs::Memos::memos), unfolding(crate::specs::View::view))]
+    fn keep_refusal(
+        &mut self,
+        row: RowName,
+        mark: Mark,
+        depth: Depth,
+        text: Text<'_>,
+        at: u32,
+        error: Error,
+    )
+        requires { (before : View) × ((IsMark before mark) × (Grown before (view self.old))
+            × (ReadsRow (row_of row) depth.levels depth.conversion text at (Err error) before (view self.old))) }
+        ensures { view self.new ≡ view self.old }
+    {
+        if !is_of_bytes(error) || !self.memo.is_for(text.bytes) {
+            return;
+        }
+        if has_no_reference(text.rest(at)) {
+            self.put_free(row, depth, text, at, error);
+        } else {
+            self.put_bound(row, mark, depth, text, at, error);
+        }
+    }
+
+    /// Keeps a refusal behind which no `S` is left, for any components.
+    #[tactic(auto, using(crate::proofs::Memos::memos), unfolding(crate::specs::View::view))]
+    fn put_free(&mut self, row: RowName, depth: Depth, text: Text<'_>, at: u32, error: Error)
+        requires bytes { (memory self.old.memo).text ≡ text.bytes.now }
+        requires alone { AllOf (λ b. not (b == 83)) (drop at text.bytes.now) }
+        requires unread { ends (kind error) ≡ false }
+        requires read { (before : View) × ((Grown before (view self.old))
+            × (ReadsRow (row_of row) depth.levels depth.conversion text at (Err error) before (view self.old))) }
+        ensures { view self.new ≡ view self.old }
+    {
+        let key = Key {
+            row,
+            at,
+            conversion: depth.conversion,
+            before: 0,
+        };
+        self.memo.put(Known {
+            key,
+            levels: depth.levels,
+            outcome: Outcome::Refused(error),
+        });
+    }
+
+    /// Keeps a refusal for the components before it.
+    #[tactic(auto, using(crate::proofs::Memos::memos), unfolding(crate::specs::View::view))]
+    fn put_bound(
+        &mut self,
+        row: RowName,
+        mark: Mark,
+        depth: Depth,
+        text: Text<'_>,
+        at: u32,
+        error: Error,
+    )
+        requires bytes { (memory self.old.memo).text ≡ text.bytes.now }
+        requires unread { ends (kind error) ≡ false }
+        requires read { (before : View) × ((IsMark before mark) × (Grown before (view self.old))
+            × (ReadsRow (row_of row) depth.levels depth.conversion text at (Err error) before (view self.old))) }
+        ensures { view self.new ≡ view self.old }
+    {
+        let key = Key {
+            row,
+            at,
+            conversion: depth.conversion,
+            before: self.memo.stamp(mark.entries),
+        };
+        self.memo.put(Known {
+            key,
+            levels: depth.levels,
+            outcome: Outcome::Refused(error),
+        });
     }
 }

@@ -7,12 +7,12 @@ ghost use Rattle.demangle_cells.specs.Cells.{plain_tree};
 ghost use Rattle.demangle_cells.specs.Fixed.{absent, first_cell};
 ghost use Rattle.demangle_cells.specs.View.{Holds, View};
 
-use crate::arena::{FIRST_CELL, FIRST_OTHER, FIRST_REFERENCE};
 use crate::plain::Plain;
+use crate::store::{FIRST_CELL, FIRST_OTHER, FIRST_REFERENCE};
 use crate::tag::Tag;
 
 /// What an index is that no cell has: a constant tree, a reference to a component, or else a part that is not there.
-#[inline(never)]
+#[inline(always)]
 #[tactic(auto, using(crate::proofs::Blocks::beside_cells))]
 pub(crate) fn beside_cells(id: u32) -> Plain
     ensures cell { is_known first_cell id ≡ true

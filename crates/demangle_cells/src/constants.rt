@@ -1,9 +1,12 @@
 //! The indexes of trees that no cell is needed for.
 
-ghost use Rattle.std.specs.Prelude.{◌≡◌, ◌<◌, ℕ, pos};
+ghost use Rattle.std.specs.Prelude.{◌≡◌, ◌<◌, ◌≤◌, ℕ, MatchOption, pos};
 ghost use Rattle.demangle_core.specs.Core.{Core, Tag, chosen, end, flag, node, number};
-ghost use Rattle.demangle_cells.specs.Fixed.{builtin_tree, number_of_table};
-ghost use Rattle.demangle_cells.specs.View.{Holds, View};
+ghost use Rattle.demangle_grammar.specs.Tree.{reference};
+ghost use Rattle.demangle_cells.specs.Fixed.{builtin_tree, first_reference, number_of_table};
+ghost use Rattle.demangle_cells.specs.View.{Holds, View, which_of};
+
+use crate::store::{FIRST_OTHER, FIRST_REFERENCE};
 
 /// The tables of words, by their numbers.
 #[derive(Clone, Copy)]
@@ -133,4 +136,21 @@ pub fn present_ref_qualifier_id(word: u8) -> u32
     ensures { (F : ℕ → Core) (v : View) → Holds F v → F result ≡ node Tag.Present (chosen 3 word end) end }
 {
     1552 + word as u32
+}
+
+/// The index of the reference to a component, by its number among the numbered ones or among the others. None exactly
+/// where the number is 2^30 or more: no arena has so many.
+#[inline(always)]
+pub fn reference_id(numbered: bool, number: usize) -> Option<u32>
+    ensures { MatchOption result (first_reference ≤ number)
+        (λ r. (F : ℕ → Core) (v : View) → Holds F v → F r ≡ reference (which_of numbered) number) }
+{
+    if number >= FIRST_REFERENCE as usize {
+        return None;
+    }
+    if numbered {
+        Some(FIRST_REFERENCE + number as u32)
+    } else {
+        Some(FIRST_OTHER + number as u32)
+    }
 }

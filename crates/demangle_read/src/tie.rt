@@ -4,7 +4,7 @@ ghost use Rattle.demangle_grammar.specs.Rule.{Row};
 ghost use Rattle.demangle_cells.specs.Reads.{ReadsRow};
 ghost use Rattle.demangle_cells.specs.View.{Grown, view};
 
-use demangle_cells::{Arena, Depth, Part, Text};
+use demangle_cells::{Arena, Depth, Part, RowName, Text};
 use demangle_read_below::Tied;
 use demangle_read_expressions::expression_by;
 use demangle_read_names::{encoding_by, mangled_name_by, name_by};
@@ -18,6 +18,10 @@ pub fn type_handle(arena: &mut Arena, depth: Depth, text: Text<'_>, at: u32) -> 
     ensures reads { ReadsRow Row.type_handle depth.levels depth.conversion text.entry at result
         (view arena.old) (view arena.new) }
 {
+    if let Some(answer) = arena.recall(RowName::TypeHandle, depth, text, at) {
+        return answer;
+    }
+    let mark = arena.mark();
     let below = Tied {
         most: depth,
         type_handle,
@@ -27,7 +31,9 @@ pub fn type_handle(arena: &mut Arena, depth: Depth, text: Text<'_>, at: u32) -> 
         encoding,
         mangled_name,
     };
-    type_handle_by(below, arena, depth, text, at)
+    let answer = type_handle_by(below, arena, depth, text, at);
+    arena.remember(RowName::TypeHandle, mark, depth, text, at, &answer);
+    answer
 }
 
 /// An expression, ABI section 5.1.6, `<expression>`.
@@ -37,6 +43,10 @@ pub fn expression(arena: &mut Arena, depth: Depth, text: Text<'_>, at: u32) -> R
     ensures reads { ReadsRow Row.expression depth.levels depth.conversion text.entry at result
         (view arena.old) (view arena.new) }
 {
+    if let Some(answer) = arena.recall(RowName::Expression, depth, text, at) {
+        return answer;
+    }
+    let mark = arena.mark();
     let below = Tied {
         most: depth,
         type_handle,
@@ -46,7 +56,9 @@ pub fn expression(arena: &mut Arena, depth: Depth, text: Text<'_>, at: u32) -> R
         encoding,
         mangled_name,
     };
-    expression_by(below, arena, depth, text, at)
+    let answer = expression_by(below, arena, depth, text, at);
+    arena.remember(RowName::Expression, mark, depth, text, at, &answer);
+    answer
 }
 
 /// A template argument, ABI section 5.1.2, `<template-arg>`.
@@ -56,6 +68,10 @@ pub fn template_arg(arena: &mut Arena, depth: Depth, text: Text<'_>, at: u32) ->
     ensures reads { ReadsRow Row.template_arg depth.levels depth.conversion text.entry at result
         (view arena.old) (view arena.new) }
 {
+    if let Some(answer) = arena.recall(RowName::TemplateArg, depth, text, at) {
+        return answer;
+    }
+    let mark = arena.mark();
     let below = Tied {
         most: depth,
         type_handle,
@@ -65,7 +81,9 @@ pub fn template_arg(arena: &mut Arena, depth: Depth, text: Text<'_>, at: u32) ->
         encoding,
         mangled_name,
     };
-    template_arg_by(below, arena, depth, text, at)
+    let answer = template_arg_by(below, arena, depth, text, at);
+    arena.remember(RowName::TemplateArg, mark, depth, text, at, &answer);
+    answer
 }
 
 /// A name, ABI section 5.1.2, `<name>`.
@@ -75,6 +93,10 @@ pub fn name(arena: &mut Arena, depth: Depth, text: Text<'_>, at: u32) -> Result<
     ensures reads { ReadsRow Row.name depth.levels depth.conversion text.entry at result
         (view arena.old) (view arena.new) }
 {
+    if let Some(answer) = arena.recall(RowName::Name, depth, text, at) {
+        return answer;
+    }
+    let mark = arena.mark();
     let below = Tied {
         most: depth,
         type_handle,
@@ -84,7 +106,9 @@ pub fn name(arena: &mut Arena, depth: Depth, text: Text<'_>, at: u32) -> Result<
         encoding,
         mangled_name,
     };
-    name_by(below, arena, depth, text, at)
+    let answer = name_by(below, arena, depth, text, at);
+    arena.remember(RowName::Name, mark, depth, text, at, &answer);
+    answer
 }
 
 /// A function, a variable or an entity that the compiler makes, ABI section 5.1.2, `<encoding>`.
@@ -94,6 +118,10 @@ pub fn encoding(arena: &mut Arena, depth: Depth, text: Text<'_>, at: u32) -> Res
     ensures reads { ReadsRow Row.encoding depth.levels depth.conversion text.entry at result
         (view arena.old) (view arena.new) }
 {
+    if let Some(answer) = arena.recall(RowName::Encoding, depth, text, at) {
+        return answer;
+    }
+    let mark = arena.mark();
     let below = Tied {
         most: depth,
         type_handle,
@@ -103,7 +131,9 @@ pub fn encoding(arena: &mut Arena, depth: Depth, text: Text<'_>, at: u32) -> Res
         encoding,
         mangled_name,
     };
-    encoding_by(below, arena, depth, text, at)
+    let answer = encoding_by(below, arena, depth, text, at);
+    arena.remember(RowName::Encoding, mark, depth, text, at, &answer);
+    answer
 }
 
 /// A mangled name, ABI section 5.1.2, `<mangled-name>`.
@@ -113,6 +143,10 @@ pub fn mangled_name(arena: &mut Arena, depth: Depth, text: Text<'_>, at: u32) ->
     ensures reads { ReadsRow Row.mangled_name depth.levels depth.conversion text.entry at result
         (view arena.old) (view arena.new) }
 {
+    if let Some(answer) = arena.recall(RowName::MangledName, depth, text, at) {
+        return answer;
+    }
+    let mark = arena.mark();
     let below = Tied {
         most: depth,
         type_handle,
@@ -122,5 +156,7 @@ pub fn mangled_name(arena: &mut Arena, depth: Depth, text: Text<'_>, at: u32) ->
         encoding,
         mangled_name,
     };
-    mangled_name_by(below, arena, depth, text, at)
+    let answer = mangled_name_by(below, arena, depth, text, at);
+    arena.remember(RowName::MangledName, mark, depth, text, at, &answer);
+    answer
 }

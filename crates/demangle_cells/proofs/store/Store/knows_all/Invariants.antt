@@ -2,7 +2,7 @@ use Rattle.std.proofs.Common.{◌≡◌, ◌+◌, length}
 use Rattle.demangle_cells.specs.Fixed.{first_cell}
 use Rattle.demangle_cells.specs.Behind.{all_known}
 use Rattle.demangle_cells.specs.Held.{held}
-use Rattle.demangle_cells.proofs.arena.Arena.knows_all.Given as goal
+use Rattle.demangle_cells.proofs.store.Store.knows_all.Given as goal
 
 abbrev pub invariant-loop-rest : goal.invariant-loop-rest
 invariant-loop-rest l =

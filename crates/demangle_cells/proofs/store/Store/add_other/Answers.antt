@@ -1,8 +1,8 @@
 use Rattle.std.proofs.Common.{rules}
 use Rattle.demangle_cells.specs.Held.{held}
-use Rattle.demangle_cells.specs.View.{view}
+use Rattle.demangle_cells.specs.Stored.{stored}
 use Rattle.demangle_cells.proofs.Components.{other_reference, numbered_same, others_more}
-use Rattle.demangle_cells.proofs.arena.Arena.add_other.Goals as goal
+use Rattle.demangle_cells.proofs.store.Store.add_other.Goals as goal
 
 pub invariant_of-self-in-Ok : goal.invariant_of-self-in-Ok
 invariant_of-self-in-Ok c = record {
@@ -14,8 +14,8 @@ invariant_of-self-in-Ok c = record {
 }
 
 pub returns-in-Ok-clause-reference : goal.returns-in-Ok-clause-reference
-unfolding view
+unfolding stored
 returns-in-Ok-clause-reference c =
     λ F h. other_reference F
-    (view c.args.self.now) _ c.len-number.result (held c.args.self.now.others) c.args.self.now.the_others
+    (stored c.args.self.now) _ c.len-number.result (held c.args.self.now.others) c.args.self.now.the_others
     (search (rules, c.len-number.ensures)) h

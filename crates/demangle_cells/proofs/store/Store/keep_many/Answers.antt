@@ -5,11 +5,11 @@ use Rattle.demangle_cells.specs.Cells.{row}
 use Rattle.demangle_cells.specs.Fixed.{first_cell}
 use Rattle.demangle_cells.specs.Held.{held}
 use Rattle.demangle_cells.specs.Tags.{tag_of}
-use Rattle.demangle_cells.specs.View.{view}
+use Rattle.demangle_cells.specs.Stored.{stored}
 use Rattle.demangle_cells.proofs.Lists.{rest_length, rest_taken}
 use Rattle.demangle_cells.proofs.Trees.{cells_after}
 use Rattle.demangle_cells.proofs.Waits.{list_after, many_behind, list_kept, list_longer, list_made}
-use Rattle.demangle_cells.proofs.arena.Arena.keep_many.Goals as goal
+use Rattle.demangle_cells.proofs.store.Store.keep_many.Goals as goal
 
 pub invariant_of-self-3 : goal.invariant_of-self-3
 invariant_of-self-3 c =
@@ -49,21 +49,21 @@ invariant_of-self-4 c =
     }
 
 pub returns-clause-kept : goal.returns-clause-kept
-unfolding view
+unfolding stored
 returns-clause-kept c =
-    list_kept (view c.args.self.now) _ _ _ c.in_ok-push.ensures.items c.in_ok-extend.ensures.items refl
+    list_kept (stored c.args.self.now) _ _ _ c.in_ok-push.ensures.items c.in_ok-extend.ensures.items refl
     c.args.self.now.behind
 
 pub returns-clause-made : goal.returns-clause-made
-unfolding view
+unfolding stored
 returns-clause-made c =
-    λ F h. list_made F (view c.args.self.now) _ c.args.tag _ c.next-id.result c.len-start.result _
+    λ F h. list_made F (stored c.args.self.now) _ c.args.tag _ c.next-id.result c.len-start.result _
     c.in_ok-push.ensures.items c.in_ok-extend.ensures.items c.len-start.ensures (rest_length c.args.from _ _ _ c.len.ensures c.items-2.ensures) c.next-id.ensures h
     ∙ ap (λ ids. node (tag_of c.args.tag) (row F ids) end)
     (rest_taken c.args.from _ c.items-2.result.now refl ∙ ap (drop c.args.from) c.items-2.ensures)
 
 pub returns-in_err-push-clause-kept : goal.returns-in_err-push-clause-kept
-unfolding view
+unfolding stored
 returns-in_err-push-clause-kept c =
-    list_longer (view c.args.self.now) _ _ c.in_err-push.ensures.same c.in_ok-extend.ensures.items refl
+    list_longer (stored c.args.self.now) _ _ c.in_err-push.ensures.same c.in_ok-extend.ensures.items refl
     c.args.self.now.behind

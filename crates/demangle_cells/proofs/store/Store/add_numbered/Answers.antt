@@ -1,8 +1,8 @@
 use Rattle.std.proofs.Common.{arith, rules}
 use Rattle.demangle_cells.specs.Held.{held}
-use Rattle.demangle_cells.specs.View.{view}
+use Rattle.demangle_cells.specs.Stored.{stored}
 use Rattle.demangle_cells.proofs.Components.{numbered_reference, numbered_more, others_same}
-use Rattle.demangle_cells.proofs.arena.Arena.add_numbered.Goals as goal
+use Rattle.demangle_cells.proofs.store.Store.add_numbered.Goals as goal
 
 pub invariant_of-self-in-Ok : goal.invariant_of-self-in-Ok
 invariant_of-self-in-Ok c = record {
@@ -14,8 +14,8 @@ invariant_of-self-in-Ok c = record {
 }
 
 pub returns-in-Ok-clause-reference : goal.returns-in-Ok-clause-reference
-unfolding view
+unfolding stored
 returns-in-Ok-clause-reference c =
     λ F h. numbered_reference F
-    (view c.args.self.now) _ c.len-number.result (held c.args.self.now.numbered) c.args.self.now.those_numbered
+    (stored c.args.self.now) _ c.len-number.result (held c.args.self.now.numbered) c.args.self.now.those_numbered
     (search (rules, c.len-number.ensures)) (grind (arith, c.if-number.false)) h

@@ -1,8 +1,8 @@
 use Rattle.std.proofs.Common.{refl, arith}
-use Rattle.demangle_cells.specs.View.{view}
+use Rattle.demangle_cells.specs.Stored.{stored}
 use Rattle.demangle_cells.proofs.Trees.{cells_after}
 use Rattle.demangle_cells.proofs.Grows.{cell_grown, cell_made}
-use Rattle.demangle_cells.proofs.arena.Arena.keep.Goals as goal
+use Rattle.demangle_cells.proofs.store.Store.keep.Goals as goal
 
 pub invariant_of-self : goal.invariant_of-self
 invariant_of-self c =
@@ -18,11 +18,11 @@ invariant_of-self c =
     }
 
 pub returns-clause-grown : goal.returns-clause-grown
-unfolding view
-returns-clause-grown c = cell_grown (view c.args.self.now) _ c.args.cell c.in_ok-push.ensures.items refl refl refl
+unfolding stored
+returns-clause-grown c = cell_grown (stored c.args.self.now) _ c.args.cell c.in_ok-push.ensures.items refl refl refl
 
 pub returns-clause-made : goal.returns-clause-made
-unfolding view
+unfolding stored
 returns-clause-made c =
     λ F h. cell_made F
-    (view c.args.self.now) _ c.args.cell c.next-id.result c.in_ok-push.ensures.items c.next-id.ensures h
+    (stored c.args.self.now) _ c.args.cell c.next-id.result c.in_ok-push.ensures.items c.next-id.ensures h

@@ -1,0 +1,220 @@
+-- Stamps: what they tell stays, and is told alone.
+use Rattle.std.proofs.Common.{◌≡◌, refl, ap, sym, ◌∙◌, subst, ℕ, zero, suc, ◌≤◌, ◌<◌, ◌+◌, ◌-◌, List, [], ◌∷◌, ◌++◌}
+use Rattle.std.proofs.Common.{length, take, reverse, arith, Option, Some, None, slice_get, slice_index, ◌⊎◌, inl, inr}
+use Rattle.std.proofs.Common.{◌≢◌}
+use Rattle.std.proofs.lemmas.List.{reverse-append}
+use Rattle.demangle_cells.specs.Memo.{IsChain, stamp_at, Stamped}
+use Rattle.demangle_cells.specs.declared.entry.Entry as made
+use Rattle.demangle_cells.specs.declared.asked.Stamp as stamp
+use Rattle.demangle_cells.proofs.Lists.{take_all, take_before, length_last}
+
+-- ---- lists
+pub get_on : {A : Type 0} (xs ys : List A) (i : ℕ) (x : A) → slice_get xs i ≡ Some x → slice_get (xs ++ ys) i ≡ Some x
+get_on [] ys i x h = absurd (grind (arith, h))
+get_on (x ∷ xs) ys zero y h = h
+get_on (x ∷ xs) ys (suc i) y h = get_on xs ys i y h
+
+pub get_end : {A : Type 0} (xs : List A) (x : A) → slice_get (xs ++ x ∷ []) (length xs) ≡ Some x
+get_end [] x = refl
+get_end (y ∷ xs) x = get_end xs x
+
+pub index_on : (ts us : List ℕ) (k : ℕ) → k < length ts → slice_index (ts ++ us) k ≡ slice_index ts k
+index_on [] us k h = absurd (omega arith)
+index_on (t ∷ ts) us zero h = refl
+index_on (t ∷ ts) us (suc k) h = index_on ts us k (omega arith)
+
+pub index_end : (ts : List ℕ) (t : ℕ) → slice_index (ts ++ t ∷ []) (length ts) ≡ t
+index_end [] t = refl
+index_end (x ∷ ts) t = index_end ts t
+
+pub index_taken : (n k : ℕ) (ts : List ℕ) → k < n → slice_index (take n ts) k ≡ slice_index ts k
+index_taken zero k ts h = absurd (omega arith)
+index_taken (suc n) k [] h = refl
+index_taken (suc n) zero (t ∷ ts) h = refl
+index_taken (suc n) (suc k) (t ∷ ts) h = index_taken n k ts (omega arith)
+
+pub take_taken : {A : Type 0} (k n : ℕ) (xs : List A) → k ≤ n → take k (take n xs) ≡ take k xs
+take_taken zero n xs h = refl
+take_taken (suc k) zero xs h = absurd (omega arith)
+take_taken (suc k) (suc n) [] h = refl
+take_taken (suc k) (suc n) (x ∷ xs) h = ap (λ l. x ∷ l) (take_taken k n xs (omega arith))
+
+pub length_taken : {A B : Type 0} (n : ℕ) (xs : List A) (ys : List B) → length xs ≡ length ys
+    → length (take n xs) ≡ length (take n ys)
+length_taken zero xs ys h = refl
+length_taken (suc n) [] [] h = refl
+length_taken (suc n) [] (y ∷ ys) h = absurd (omega (arith, h))
+length_taken (suc n) (x ∷ xs) [] h = absurd (omega (arith, h))
+length_taken (suc n) (x ∷ xs) (y ∷ ys) h =
+    let r : length (take n xs) ≡ length (take n ys) = length_taken n xs ys (omega (arith, h)) in
+    omega (arith, r)
+
+abbrev option_or : {A : Type 0} → A → Option A → A
+option_or x None = x
+option_or x (Some y) = y
+
+pub same_some : {A : Type 0} (x y : A) → Some x ≡ Some y → x ≡ y
+same_some x y e = ap (λ o. option_or x o) e
+
+le_or_last : (k n : ℕ) → k ≤ n + 1 → (k ≤ n) ⊎ (k ≡ suc n)
+le_or_last zero n h = inl (omega arith)
+le_or_last (suc k) zero h = inr (omega arith)
+le_or_last (suc k) (suc n) h = by (le_or_last k n (omega arith))
+  where
+    by : (k ≤ n) ⊎ (k ≡ suc n) → (suc k ≤ suc n) ⊎ (suc k ≡ suc (suc n))
+    by (inl l) = inl (omega arith)
+    by (inr e) = inr (ap suc e)
+
+abbrev entry_of : stamp.Stamp → made.Entry
+entry_of x = record { numbered = x.numbered; id = x.id }
+
+index_of : (n s : ℕ) (ts : List ℕ) → Some s ≡ slice_get ts n → s ≡ slice_index ts n
+index_of n s [] e = absurd (grind (arith, e))
+index_of zero s (t ∷ ts) e = same_some s t e
+index_of (suc n) s (t ∷ ts) e = index_of n s ts e
+
+index_missing : (n : ℕ) (ts : List ℕ) → None ≡ slice_get ts n → 0 ≡ slice_index ts n
+index_missing n [] e = refl
+index_missing zero (t ∷ ts) e = absurd (grind (arith, e))
+index_missing (suc n) (t ∷ ts) e = index_missing n ts e
+
+-- ---- chains
+pub chain_on : (log more : List stamp.Stamp) (s : ℕ) (es : List made.Entry) → IsChain log s es
+    → IsChain (log ++ more) s es
+chain_on log more s [] h = h
+chain_on log more s (e ∷ es) h =
+    (h.0, (h.1.0, (get_on log more _ _ h.1.1), chain_on log more h.0 es h.1.2))
+
+-- a stamp tells one list
+pub chain_same : (log : List stamp.Stamp) (s : ℕ) (es ds : List made.Entry) → IsChain log s es → IsChain log s ds
+    → es ≡ ds
+chain_same log s [] [] h k = refl
+chain_same log s [] (d ∷ ds) h k = absurd (omega (arith, h, k.1.0))
+chain_same log s (e ∷ es) [] h k = absurd (omega (arith, k, h.1.0))
+chain_same log s (e ∷ es) (d ∷ ds) h k =
+    let n : record { before = h.0; numbered = e.numbered; id = e.id }
+    ≡ record { before = k.0; numbered = d.numbered; id = d.id } =
+    same_some _ _ (sym h.1.1 ∙ k.1.1) in
+    let b : h.0 ≡ k.0 = ap (λ x. x.before) n in
+    let i : e ≡ d = ap (λ x. entry_of x) n in
+    let r : es ≡ ds = chain_same log h.0 es ds h.1.2 (subst (λ t. IsChain log t ds) (sym b) k.1.2) in
+    ap (λ x. x ∷ es) i ∙ ap (λ l. d ∷ l) r
+
+-- ---- the stamps of components
+pub stamped_none : (log : List stamp.Stamp) (stamps : List ℕ) (entries : List made.Entry) → stamps ≡ [] → entries ≡ []
+    → Stamped log stamps entries
+stamped_none log stamps entries s e = record {
+  all = ap length s ∙ sym (ap length e);
+  each = λ k h. first k (omega (arith, h, ap length e));
+}
+  where
+    first : (k : ℕ) → k ≤ 0 → IsChain log (stamp_at k stamps) (reverse (take k entries))
+    first zero h = refl
+    first (suc k) h = absurd (omega arith)
+
+pub stamped_on : (log more : List stamp.Stamp) (stamps : List ℕ) (entries : List made.Entry)
+    → Stamped log stamps entries
+    → Stamped (log ++ more) stamps entries
+stamped_on log more stamps entries h = record {
+  all = h.all;
+  each = λ k l. chain_on log more _ _ (h.each k l);
+}
+
+stamp_taken : (n k : ℕ) (ts : List ℕ) → k ≤ n → stamp_at k (take n ts) ≡ stamp_at k ts
+stamp_taken n zero ts h = refl
+stamp_taken n (suc k) ts h = index_taken n k ts (omega arith)
+
+taken_le : {A : Type 0} (n : ℕ) (xs : List A) → length (take n xs) ≤ n
+taken_le zero xs = omega arith
+taken_le (suc n) [] = omega arith
+taken_le (suc n) (x ∷ xs) = let r = taken_le n xs in omega arith
+
+taken_less : {A : Type 0} (n : ℕ) (xs : List A) → length (take n xs) ≤ length xs
+taken_less zero xs = omega arith
+taken_less (suc n) [] = omega arith
+taken_less (suc n) (x ∷ xs) = let r = taken_less n xs in omega arith
+
+pub stamped_cut : (log : List stamp.Stamp) (stamps : List ℕ) (entries : List made.Entry) (n : ℕ)
+    → Stamped log stamps entries → Stamped log (take n stamps) (take n entries)
+stamped_cut log stamps entries n h = record {
+  all = length_taken n stamps entries h.all;
+  each = λ k l.
+      let a : k ≤ n = omega (arith, l, taken_le n entries) in
+      let b : k ≤ length entries = omega (arith, l, taken_less n entries) in
+      subst (λ s. IsChain log s (reverse (take k (take n entries)))) (sym (stamp_taken n k stamps a))
+      (subst (λ es. IsChain log (stamp_at k stamps) (reverse es)) (sym (take_taken k n entries a)) (h.each k b));
+}
+
+stamp_front : (k : ℕ) (ts us : List ℕ) → k ≤ length ts → stamp_at k (ts ++ us) ≡ stamp_at k ts
+stamp_front zero ts us h = refl
+stamp_front (suc k) ts us h = index_on ts us k (omega arith)
+
+-- one component more
+pub stamped_more : (log : List stamp.Stamp) (stamps : List ℕ) (entries : List made.Entry) (s : ℕ) (e : made.Entry)
+    → Stamped log stamps entries → 0 < s
+    → slice_get log (s - 1) ≡ Some (record {
+      before = stamp_at
+          (length entries) stamps;
+      numbered = e.numbered;
+      id = e.id;
+    })
+    → Stamped log (stamps ++ s ∷ []) (entries ++ e ∷ [])
+stamped_more log stamps entries s e h p g = record {
+  all = length_last stamps s ∙ (ap (λ n. n + 1) h.all ∙ sym (length_last entries e));
+  each = λ k l. by k (le_or_last k (length entries) (omega (arith, l, length_last entries e)));
+}
+  where
+    last : IsChain log s (reverse (entries ++ e ∷ []))
+    last =
+        subst (λ es. IsChain log s es) (sym (reverse-append entries (e ∷ []))) (
+          stamp_at (length entries) stamps,
+          (
+            p,
+            g,
+            subst (λ es. IsChain log (stamp_at (length entries) stamps) (reverse es)) (take_all entries)
+                (h.each (length entries) (omega arith)),
+          ),
+        )
+
+    by : (k : ℕ) → (k ≤ length entries) ⊎ (k ≡ suc (length entries))
+        → IsChain log (stamp_at k (stamps ++ s ∷ [])) (reverse (take k (entries ++ e ∷ [])))
+    by k (inl l) =
+        subst (λ t. IsChain log t (reverse (take k (entries ++ e ∷ [])))) (sym (stamp_front k stamps (s ∷ []) (omega
+        (arith, l, h.all))))
+        (subst (λ es. IsChain log (stamp_at k stamps) (reverse es)) (sym (take_before k entries (e ∷ []) l))
+        (h.each k l))
+    by k (inr q) =
+        subst (λ n. IsChain log (stamp_at n (stamps ++ s ∷ [])) (reverse (take n (entries ++ e ∷ [])))) (sym q)
+        (subst (λ t. IsChain log t (reverse (take (suc (length entries)) (entries ++ e ∷ []))))
+        (sym (ap (λ n. slice_index (stamps ++ s ∷ []) n) (sym h.all) ∙ index_end stamps s))
+        (subst (λ es. IsChain log s (reverse es)) (sym all_of) last))
+      where
+        long : suc (length entries) ≡ length (entries ++ e ∷ [])
+        long = let l = length_last entries e in omega (arith, l)
+
+        all_of : take (suc (length entries)) (entries ++ e ∷ []) ≡ entries ++ e ∷ []
+        all_of = ap (λ n. take n (entries ++ e ∷ [])) long ∙ take_all (entries ++ e ∷ [])
+
+-- those of all components, and of the first of them
+pub chain_at : (log : List stamp.Stamp) (stamps : List ℕ) (entries first : List made.Entry) (n : ℕ)
+    → Stamped log stamps entries → n ≡ length first → take (length first) entries ≡ first
+    → IsChain log (stamp_at n stamps) (reverse first)
+chain_at log stamps entries first n h e f =
+    subst (λ k. IsChain log (stamp_at k stamps) (reverse first)) (sym e)
+    (subst (λ es. IsChain log (stamp_at (length first) stamps) (reverse es)) f
+    (h.each (length first) (subst (λ es. length es ≤ length entries) f (taken_less (length first) entries))))
+
+-- ---- the stamp of so many components, as it is looked up
+pub stamp_found : (n s : ℕ) (ts : List ℕ) → n ≢ 0 → Some s ≡ slice_get ts (n - 1) → s ≡ stamp_at n ts
+stamp_found zero s ts h e = absurd (h refl)
+stamp_found (suc n) s ts h e =
+    let i : suc n - 1 ≡ n = omega arith in
+    index_of n s ts (subst (λ k. Some s ≡ slice_get ts k) i e)
+
+pub stamp_missing : (n : ℕ) (ts : List ℕ) → n ≢ 0 → None ≡ slice_get ts (n - 1) → 0 ≡ stamp_at n ts
+stamp_missing zero ts h e = absurd (h refl)
+stamp_missing (suc n) ts h e =
+    let i : suc n - 1 ≡ n = omega arith in
+    index_missing n ts (subst (λ k. None ≡ slice_get ts k) i e)
+
+pub ruleset stamps = (stamp_found, stamp_missing)

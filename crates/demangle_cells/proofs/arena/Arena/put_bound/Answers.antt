@@ -1,0 +1,19 @@
+use Rattle.demangle_cells.specs.Memo.{memory}
+use Rattle.demangle_cells.specs.Stored.{stored}
+use Rattle.demangle_cells.specs.View.{view}
+use Rattle.demangle_cells.proofs.Memos.{memo_put, refusal_bound}
+use Rattle.demangle_cells.proofs.arena.Arena.put_bound.Goals as goal
+
+pub invariant_of-self : goal.invariant_of-self
+unfolding view
+invariant_of-self c = record {
+  kept =
+      memo_put (stored c.args.self.now.store) (memory c.args.self.now.memo) (memory c.put.new.self) _ c.put.ensures.log
+      c.put.ensures.stamps c.put.ensures.text c.put.ensures.known
+      (refusal_bound c.requires.read.0 (stored c.args.self.now.store)
+      (memory c.args.self.now.memo) c.args.mark c.args.text
+      (record { row = c.args.row; at = c.args.at; conversion = c.args.depth.conversion; before = c.stamp.result })
+      c.args.depth.levels c.args.error c.args.self.now.kept c.requires.read.1.0 c.requires.read.1.1 c.requires.unread
+      c.requires.read.1.2 c.requires.bytes c.stamp.ensures)
+      c.args.self.now.kept;
+}
