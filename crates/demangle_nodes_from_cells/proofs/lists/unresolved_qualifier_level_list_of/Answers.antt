@@ -1,0 +1,12 @@
+use Rattle.std.proofs.Common.{rules}
+use Rattle.std.proofs.lemmas.List.{take_more}
+use Rattle.demangle_nodes.specs.TreeNodes.{parts_of_unresolved_qualifier_level, tag_of_unresolved_qualifier_level}
+use Rattle.demangle_leaves_from_cells.proofs.Rows.{tree_more}
+use Rattle.demangle_nodes_from_cells.proofs.Held.{holds_of}
+use Rattle.demangle_nodes_from_cells.proofs.lists.unresolved_qualifier_level_list_of.Goals as goal
+
+pub loop-id-preserved : goal.loop-id-preserved
+loop-id-preserved g c = λ F h. tree_more tag_of_unresolved_qualifier_level parts_of_unresolved_qualifier_level
+    F c.args.ids.now c.loop-id.id-index _ c.loop-id.list.items c.in_ok-list.list.items c.in_ok-held.next
+    (search rules) (search (rules, take_more)) (c.loop-id.invariant F h)
+    (holds_of _ _ _ c.in_ok-held.ensures.second c.unresolved_qualifier_level_by.ensures.made F h)
