@@ -1,0 +1,4 @@
+use Rattle.demangle_leaves_to_cells.proofs.parts.type_handle_list_to.Goals as goal
+
+pub returns : goal.returns
+returns c = c.gather.ensures _ _ c.waiting-from.ensures c.wait_type_handle_list-waited.ensures

@@ -1,0 +1,14 @@
+use Rattle.std.proofs.lemmas.List.{take_more}
+use Rattle.std.proofs.Common.{rules}
+use Rattle.demangle_leaf_nodes.specs.TreeLeaves.{parts_of_type_handle, tag_of_type_handle}
+use Rattle.demangle_leaves_to_cells.proofs.Puts.{trees_more, waits_failed}
+use Rattle.demangle_leaves_to_cells.proofs.parts.wait_type_handle_list.Goals as goal
+
+pub returns-in_err-wait : goal.returns-in_err-wait
+returns-in_err-wait c = waits_failed _ _ _ _ _ _ _ c.in_err-wait.was (search rules) (c.wait.ensures _ _ _ _
+    c.loop-node.invariant c.type_handle_to-part.ensures)
+
+pub loop-node-preserved : goal.loop-node-preserved
+loop-node-preserved c = trees_more tag_of_type_handle parts_of_type_handle _ _ _ _ c.args.nodes.now
+    c.loop-node.node-index _ c.in_ok-wait.was (search (rules, take_more)) (c.wait.ensures _ _ _ _ c.loop-node.invariant
+    c.type_handle_to-part.ensures)
