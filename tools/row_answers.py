@@ -20,7 +20,7 @@ import syntax
 AMPLE = 4096  # levels, where a line tells no limit
 SHOWN = 20  # how many wrong answers are printed
 WIDTHS = ("SignedBitIntExpression", "UnsignedBitIntExpression")
-IMPLS = re.compile(r"impl Parse for (\w+)")
+IMPLS = re.compile(r"impl (?:Parse|ReadCells) for (\w+)")
 
 # asks each line of the input: the program that asks has its own `asked` and `answer`
 MAIN = """fn main(rt: HostRuntime) -> io::Result<()> {

@@ -1,0 +1,4 @@
+pub mod Adding
+pub mod Behind
+pub mod Made
+pub mod Places

@@ -7,6 +7,9 @@ ghost use Rattle.demangle_grammar.specs.Rule.{Row};
 ghost use Rattle.demangle_leaf_rows.specs.Answers.{AnswersOrOutOfMemory};
 ghost use Rattle.demangle_parse.specs.Reading.{reading_in};
 
+use crate::parsed::parsed;
+use crate::read_cells::ReadCells;
+use demangle_cells::Depth;
 use demangle_leaf_rows::ParseContext;
 use demangle_table::SubstitutionTable;
 use demangle_text::{IndexStr, Result};
@@ -33,4 +36,25 @@ pub trait Parse: Sized {
             (reading_in ctx.old row input.entry (table_of subs.old)) }
         ensures tables { OnErr result (table_of subs.new ≡ table_of subs.old) }
         ensures context { ctx.new ≡ ctx.old };
+}
+
+/// A node that is made out of cells.
+impl<X: ReadCells> Parse for X {
+    ghost row = { X.ReadCells.row };
+
+    ghost tree = { X.ReadCells.tree };
+
+    fn parse<'b>(
+        alloc: Global,
+        ctx: &mut ParseContext,
+        subs: &mut SubstitutionTable,
+        input: IndexStr<'b>,
+    ) -> Result<(X, IndexStr<'b>)> {
+        let left = ctx.depth();
+        let depth = Depth {
+            levels: left.levels,
+            conversion: left.conversion,
+        };
+        parsed(alloc, depth, subs, input)
+    }
 }

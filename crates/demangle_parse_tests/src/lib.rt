@@ -15,9 +15,9 @@ mod limits;
 #[cfg(test)]
 mod names;
 #[cfg(test)]
-mod readings;
+mod places;
 #[cfg(test)]
-mod sizes;
+mod readings;
 #[cfg(test)]
 mod types;
 #[cfg(test)]
