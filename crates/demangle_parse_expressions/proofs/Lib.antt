@@ -1,4 +1,0 @@
-pub mod DeleteLaws
-pub mod ExpressionStarts
-pub mod MissingWords
-pub mod RowsRead

@@ -1,3 +1,0 @@
-pub mod Deletes
-pub mod ExpressionStarts
-pub mod MemberNames

@@ -1,2 +1,0 @@
-pub mod NameStarts
-pub mod Words

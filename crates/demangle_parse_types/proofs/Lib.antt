@@ -1,2 +1,0 @@
-pub mod ListEnds
-pub mod RowsRead

@@ -1,3 +1,0 @@
-pub mod RowsRead
-pub mod Signs
-pub mod TypeStarts

@@ -1,3 +1,0 @@
-pub mod JavaResources
-pub mod LeafLists
-pub mod WordParts

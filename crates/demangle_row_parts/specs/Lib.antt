@@ -1,5 +1,0 @@
-pub mod Bytes
-pub mod Lists
-pub mod NestedNames
-pub mod Words
-pub mod ExpressionWords
