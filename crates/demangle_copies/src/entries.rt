@@ -1,8 +1,6 @@
 //! Copies of the types above names and expressions: types, prefixes and components.
 
-ghost use Rattle.std.specs.Prelude.{◌≡◌, IfOk, IfErr};
-ghost use Rattle.demangle_text.specs.declared.error.Error.TheVariants.{OutOfMemory};
-ghost use Rattle.demangle_leaf_nodes.specs.TreeLeaves.{tree_of_option};
+ghost use Rattle.std.specs.Prelude.{◌≡◌};
 ghost use Rattle.demangle_entries.specs.TreeEntries.{
   tree_of_array_type,
   tree_of_class_enum_type,
@@ -16,30 +14,53 @@ ghost use Rattle.demangle_entries.specs.TreeEntries.{
   tree_of_vector_type,
 };
 
+use crate::in_cells::{InCells, copied};
 use crate::try_clone::TryClone;
-use demangle_discard::Discard;
+use demangle_cells::Arena;
 use demangle_entries::{
     ArrayType, ClassEnumType, Decltype, ExceptionSpec, FunctionType, Prefix, Substitutable,
     TypeNode, UnresolvedType, VectorType,
 };
-use demangle_node_copies::{
-    clone_boxed_expression, clone_boxed_name, clone_optional_template_args,
+use demangle_nodes_from_cells::{
+    array_type_from, class_enum_type_from, decltype_from, exception_spec_from, function_type_from,
+    prefix_from, substitutable_from, type_node_from, unresolved_type_from, vector_type_from,
+};
+use demangle_nodes_to_cells::{
+    array_type_to, class_enum_type_to, decltype_to, exception_spec_to, function_type_to, prefix_to,
+    substitutable_to, type_node_to, unresolved_type_to, vector_type_to,
 };
 use demangle_text::Result;
 use std::alloc::Global;
+
+impl InCells for Decltype {
+    ghost tree = { tree_of_decltype };
+
+    fn put(&self, arena: &mut Arena) -> Result<u32> {
+        decltype_to(arena, self)
+    }
+
+    fn made(alloc: Global, arena: &Arena, id: u32) -> Result<Decltype> {
+        decltype_from(alloc, arena, id)
+    }
+}
 
 impl TryClone for Decltype {
     ghost IsCopy = { λ a b. tree_of_decltype b ≡ tree_of_decltype a };
 
     fn try_clone(&self, alloc: Global) -> Result<Decltype> {
-        match self {
-            Decltype::IdExpression(expr) => Ok(Decltype::IdExpression(clone_boxed_expression(
-                alloc, expr,
-            )?)),
-            Decltype::Expression(expr) => Ok(Decltype::Expression(clone_boxed_expression(
-                alloc, expr,
-            )?)),
-        }
+        copied(alloc, self)
+    }
+}
+
+impl InCells for Prefix {
+    ghost tree = { tree_of_prefix };
+
+    fn put(&self, arena: &mut Arena) -> Result<u32> {
+        prefix_to(arena, self)
+    }
+
+    fn made(alloc: Global, arena: &Arena, id: u32) -> Result<Prefix> {
+        prefix_from(alloc, arena, id)
     }
 }
 
@@ -47,14 +68,19 @@ impl TryClone for Prefix {
     ghost IsCopy = { λ a b. tree_of_prefix b ≡ tree_of_prefix a };
 
     fn try_clone(&self, alloc: Global) -> Result<Prefix> {
-        match self {
-            Prefix::Unqualified(name) => Ok(Prefix::Unqualified(name.try_clone(alloc)?)),
-            Prefix::Nested(scope, name) => Ok(Prefix::Nested(*scope, name.try_clone(alloc)?)),
-            Prefix::Template(scope, args) => Ok(Prefix::Template(*scope, args.try_clone(alloc)?)),
-            Prefix::TemplateParam(param) => Ok(Prefix::TemplateParam(*param)),
-            Prefix::Decltype(decltype) => Ok(Prefix::Decltype(decltype.try_clone(alloc)?)),
-            Prefix::DataMember(scope, member) => Ok(Prefix::DataMember(*scope, *member)),
-        }
+        copied(alloc, self)
+    }
+}
+
+impl InCells for ArrayType {
+    ghost tree = { tree_of_array_type };
+
+    fn put(&self, arena: &mut Arena) -> Result<u32> {
+        array_type_to(arena, self)
+    }
+
+    fn made(alloc: Global, arena: &Arena, id: u32) -> Result<ArrayType> {
+        array_type_from(alloc, arena, id)
     }
 }
 
@@ -62,16 +88,19 @@ impl TryClone for ArrayType {
     ghost IsCopy = { λ a b. tree_of_array_type b ≡ tree_of_array_type a };
 
     fn try_clone(&self, alloc: Global) -> Result<ArrayType> {
-        match self {
-            ArrayType::DimensionNumber(length, element) => Ok(ArrayType::DimensionNumber(
-                *length, *element,
-            )),
-            ArrayType::DimensionExpression(length, element) => Ok(ArrayType::DimensionExpression(
-                clone_boxed_expression(alloc, length)?,
-                *element,
-            )),
-            ArrayType::NoDimension(element) => Ok(ArrayType::NoDimension(*element)),
-        }
+        copied(alloc, self)
+    }
+}
+
+impl InCells for VectorType {
+    ghost tree = { tree_of_vector_type };
+
+    fn put(&self, arena: &mut Arena) -> Result<u32> {
+        vector_type_to(arena, self)
+    }
+
+    fn made(alloc: Global, arena: &Arena, id: u32) -> Result<VectorType> {
+        vector_type_from(alloc, arena, id)
     }
 }
 
@@ -79,15 +108,19 @@ impl TryClone for VectorType {
     ghost IsCopy = { λ a b. tree_of_vector_type b ≡ tree_of_vector_type a };
 
     fn try_clone(&self, alloc: Global) -> Result<VectorType> {
-        match self {
-            VectorType::DimensionNumber(length, element) => Ok(VectorType::DimensionNumber(
-                *length, *element,
-            )),
-            VectorType::DimensionExpression(length, element) => Ok(VectorType::DimensionExpression(
-                clone_boxed_expression(alloc, length)?,
-                *element,
-            )),
-        }
+        copied(alloc, self)
+    }
+}
+
+impl InCells for ClassEnumType {
+    ghost tree = { tree_of_class_enum_type };
+
+    fn put(&self, arena: &mut Arena) -> Result<u32> {
+        class_enum_type_to(arena, self)
+    }
+
+    fn made(alloc: Global, arena: &Arena, id: u32) -> Result<ClassEnumType> {
+        class_enum_type_from(alloc, arena, id)
     }
 }
 
@@ -95,18 +128,19 @@ impl TryClone for ClassEnumType {
     ghost IsCopy = { λ a b. tree_of_class_enum_type b ≡ tree_of_class_enum_type a };
 
     fn try_clone(&self, alloc: Global) -> Result<ClassEnumType> {
-        match self {
-            ClassEnumType::Named(name) => Ok(ClassEnumType::Named(clone_boxed_name(alloc, name)?)),
-            ClassEnumType::ElaboratedStruct(name) => Ok(ClassEnumType::ElaboratedStruct(
-                clone_boxed_name(alloc, name)?,
-            )),
-            ClassEnumType::ElaboratedUnion(name) => Ok(ClassEnumType::ElaboratedUnion(
-                clone_boxed_name(alloc, name)?,
-            )),
-            ClassEnumType::ElaboratedEnum(name) => Ok(ClassEnumType::ElaboratedEnum(
-                clone_boxed_name(alloc, name)?,
-            )),
-        }
+        copied(alloc, self)
+    }
+}
+
+impl InCells for ExceptionSpec {
+    ghost tree = { tree_of_exception_spec };
+
+    fn put(&self, arena: &mut Arena) -> Result<u32> {
+        exception_spec_to(arena, self)
+    }
+
+    fn made(alloc: Global, arena: &Arena, id: u32) -> Result<ExceptionSpec> {
+        exception_spec_from(alloc, arena, id)
     }
 }
 
@@ -114,23 +148,19 @@ impl TryClone for ExceptionSpec {
     ghost IsCopy = { λ a b. tree_of_exception_spec b ≡ tree_of_exception_spec a };
 
     fn try_clone(&self, alloc: Global) -> Result<ExceptionSpec> {
-        match self {
-            ExceptionSpec::NoExcept => Ok(ExceptionSpec::NoExcept),
-            ExceptionSpec::Computed(condition) => Ok(ExceptionSpec::Computed(clone_boxed_expression(
-                alloc, condition,
-            )?)),
-        }
+        copied(alloc, self)
     }
 }
 
-fn clone_optional_spec(alloc: Global, spec: &Option<ExceptionSpec>) -> Result<Option<ExceptionSpec>>
-    ensures equal { IfOk result (λ r. tree_of_option tree_of_exception_spec r
-        ≡ tree_of_option tree_of_exception_spec spec.now) }
-    ensures refused { IfErr result (λ e. e ≡ OutOfMemory) }
-{
-    match spec {
-        None => Ok(None),
-        Some(spec) => Ok(Some(spec.try_clone(alloc)?)),
+impl InCells for FunctionType {
+    ghost tree = { tree_of_function_type };
+
+    fn put(&self, arena: &mut Arena) -> Result<u32> {
+        function_type_to(arena, self)
+    }
+
+    fn made(alloc: Global, arena: &Arena, id: u32) -> Result<FunctionType> {
+        function_type_from(alloc, arena, id)
     }
 }
 
@@ -138,22 +168,19 @@ impl TryClone for FunctionType {
     ghost IsCopy = { λ a b. tree_of_function_type b ≡ tree_of_function_type a };
 
     fn try_clone(&self, alloc: Global) -> Result<FunctionType> {
-        let exception_spec = clone_optional_spec(alloc, &self.exception_spec)?;
-        let bare = match self.bare.try_clone(alloc) {
-            Ok(bare) => bare,
-            Err(error) => {
-                exception_spec.discard();
-                return Err(error);
-            }
-        };
-        Ok(FunctionType {
-            cv_qualifiers: self.cv_qualifiers,
-            exception_spec,
-            transaction_safe: self.transaction_safe,
-            extern_c: self.extern_c,
-            bare,
-            ref_qualifier: self.ref_qualifier,
-        })
+        copied(alloc, self)
+    }
+}
+
+impl InCells for TypeNode {
+    ghost tree = { tree_of_type_node };
+
+    fn put(&self, arena: &mut Arena) -> Result<u32> {
+        type_node_to(arena, self)
+    }
+
+    fn made(alloc: Global, arena: &Arena, id: u32) -> Result<TypeNode> {
+        type_node_from(alloc, arena, id)
     }
 }
 
@@ -161,34 +188,19 @@ impl TryClone for TypeNode {
     ghost IsCopy = { λ a b. tree_of_type_node b ≡ tree_of_type_node a };
 
     fn try_clone(&self, alloc: Global) -> Result<TypeNode> {
-        match self {
-            TypeNode::Function(function) => Ok(TypeNode::Function(function.try_clone(alloc)?)),
-            TypeNode::ClassEnum(class) => Ok(TypeNode::ClassEnum(class.try_clone(alloc)?)),
-            TypeNode::Array(array) => Ok(TypeNode::Array(array.try_clone(alloc)?)),
-            TypeNode::Vector(vector) => Ok(TypeNode::Vector(vector.try_clone(alloc)?)),
-            TypeNode::PointerToMember(pointer) => Ok(TypeNode::PointerToMember(*pointer)),
-            TypeNode::TemplateParam(param) => Ok(TypeNode::TemplateParam(*param)),
-            TypeNode::TemplateTemplate(template, args) => Ok(TypeNode::TemplateTemplate(
-                *template,
-                args.try_clone(alloc)?,
-            )),
-            TypeNode::Decltype(decltype) => Ok(TypeNode::Decltype(decltype.try_clone(alloc)?)),
-            TypeNode::Qualified(qualifiers, handle) => Ok(TypeNode::Qualified(
-                *qualifiers,
-                *handle,
-            )),
-            TypeNode::VendorExtension(name, args, handle) => Ok(TypeNode::VendorExtension(
-                *name,
-                clone_optional_template_args(alloc, args)?,
-                *handle,
-            )),
-            TypeNode::PointerTo(handle) => Ok(TypeNode::PointerTo(*handle)),
-            TypeNode::LvalueRef(handle) => Ok(TypeNode::LvalueRef(*handle)),
-            TypeNode::RvalueRef(handle) => Ok(TypeNode::RvalueRef(*handle)),
-            TypeNode::Complex(handle) => Ok(TypeNode::Complex(*handle)),
-            TypeNode::Imaginary(handle) => Ok(TypeNode::Imaginary(*handle)),
-            TypeNode::PackExpansion(handle) => Ok(TypeNode::PackExpansion(*handle)),
-        }
+        copied(alloc, self)
+    }
+}
+
+impl InCells for UnresolvedType {
+    ghost tree = { tree_of_unresolved_type };
+
+    fn put(&self, arena: &mut Arena) -> Result<u32> {
+        unresolved_type_to(arena, self)
+    }
+
+    fn made(alloc: Global, arena: &Arena, id: u32) -> Result<UnresolvedType> {
+        unresolved_type_from(alloc, arena, id)
     }
 }
 
@@ -196,15 +208,19 @@ impl TryClone for UnresolvedType {
     ghost IsCopy = { λ a b. tree_of_unresolved_type b ≡ tree_of_unresolved_type a };
 
     fn try_clone(&self, alloc: Global) -> Result<UnresolvedType> {
-        match self {
-            UnresolvedType::Template(param, args) => Ok(UnresolvedType::Template(
-                *param,
-                clone_optional_template_args(alloc, args)?,
-            )),
-            UnresolvedType::Decltype(decltype) => Ok(UnresolvedType::Decltype(decltype.try_clone(
-                alloc,
-            )?)),
-        }
+        copied(alloc, self)
+    }
+}
+
+impl InCells for Substitutable {
+    ghost tree = { tree_of_substitutable };
+
+    fn put(&self, arena: &mut Arena) -> Result<u32> {
+        substitutable_to(arena, self)
+    }
+
+    fn made(alloc: Global, arena: &Arena, id: u32) -> Result<Substitutable> {
+        substitutable_from(alloc, arena, id)
     }
 }
 
@@ -212,21 +228,6 @@ impl TryClone for Substitutable {
     ghost IsCopy = { λ a b. tree_of_substitutable b ≡ tree_of_substitutable a };
 
     fn try_clone(&self, alloc: Global) -> Result<Substitutable> {
-        match self {
-            Substitutable::UnscopedTemplateName(name) => Ok(Substitutable::UnscopedTemplateName(
-                name.try_clone(alloc)?,
-            )),
-            Substitutable::TypeNode(node) => Ok(Substitutable::TypeNode(node.try_clone(alloc)?)),
-            Substitutable::TemplateTemplateParam(param) => Ok(Substitutable::TemplateTemplateParam(
-                *param,
-            )),
-            Substitutable::UnresolvedType(unresolved) => Ok(Substitutable::UnresolvedType(
-                unresolved.try_clone(alloc)?,
-            )),
-            Substitutable::Prefix(prefix) => Ok(Substitutable::Prefix(prefix.try_clone(alloc)?)),
-            Substitutable::Expression(width) => Ok(Substitutable::Expression(clone_boxed_expression(
-                alloc, width,
-            )?)),
-        }
+        copied(alloc, self)
     }
 }

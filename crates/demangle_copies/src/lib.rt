@@ -2,6 +2,7 @@
 #![tactic(auto)]
 
 mod entries;
+mod in_cells;
 mod leaves;
 mod nodes;
 mod table;
