@@ -10,6 +10,7 @@ use Rattle.demangle_cells.specs.Fixed.{first_other}
 use Rattle.demangle_cells.specs.Cells.{plain_tree, row, span, holds_from}
 use Rattle.demangle_cells.specs.Behind.{is_known, is_kept, all_known, is_behind, all_behind}
 use Rattle.demangle_cells.specs.Model.{model}
+use Rattle.demangle_cells.specs.Stored.{stored}
 use Rattle.demangle_cells.specs.View.{View, view, Holds}
 use Rattle.demangle_cells.specs.declared.arena.Arena.{Arena}
 use Rattle.demangle_cells.specs.declared.plain.Plain.{Plain}
@@ -81,8 +82,8 @@ module _ (v : View) where
       }
 
 pub trees_hold : (a : Arena) → Holds (tree_at a) (view a)
-unfolding view tree_at
-trees_hold a = holds (view a) a.few a.behind
+unfolding view stored tree_at
+trees_hold a = holds (view a) a.store.few a.store.behind
 
 -- ---- what holds of each tree that is the same everywhere
 -- no reference and no mark stands at the front

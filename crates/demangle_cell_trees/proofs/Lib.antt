@@ -1,4 +1,5 @@
 pub mod AllEntries
+pub mod LastOnes
 pub mod Hold
 pub mod Looks
 pub mod Numbers

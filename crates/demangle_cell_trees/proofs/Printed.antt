@@ -81,6 +81,9 @@ module _ (w : World Core) (x : Core) (t : Tag) (xs : List Core) (e : w.look x �
       ap (of_handle w) (optional_is ∙ ap (λ z. of_holding z x xs) (holder_optional t h))
       ∙ (handle_is ∙ ap (λ z. of_holding z x xs) (holder_handle t h))
 
+  handled_holder : is_holder (code t) ≡ true → of_handle w (Some x) ≡ seen.nth 0 xs
+  handled_holder h = handle_is ∙ ap (λ z. of_holding z x xs) (holder_handle t h)
+
   printed_present : nat_eq (code t) 0 ≡ true → of_part w (Some x) ≡ of_handle w (seen.nth 0 xs)
   printed_present h = ap (of_handle w) (optional_is ∙ ap (λ z. of_holding z x xs) (present_optional t h))
 
@@ -125,14 +128,31 @@ module _ (a : Arena) (k : ℕ) (t : kept.Tag) (i : ℕ) (e : Sees a k (of_plain.
       sym (printed_present (with_table table input) (node_at a k) (tag_of t) (tree_at a i ∷ []) look_one h)
 
 -- what a component holds
-pub component_is_held : (a : Arena) (k : ℕ) (t : kept.Tag) (i : ℕ) → IsCell a k (of_plain.One t i) → i < first_inside
-    → is_holder (code (tag_of t)) ≡ true → (table : Table) (input : List ℕ) (x : Core)
-    → look_in table input x ≡ look_component (Some (tree_at a k))
-    → Some (node_at a i) ≡ of_part (with_table table input) (Some x)
-component_is_held a k t i e b h table input x l =
-    ap Some (index_node a i b)
-    ∙ sym (printed_holder (with_table table input) x (tag_of t) (tree_at a i ∷ [])
-    (l ∙ (ap (λ z. look_component (Some z)) e.is ∙ ap (seen.node (tag_of t)) (alone (tree_at a i) (single a i)))) h)
+module _ (a : Arena) (k : ℕ) (t : kept.Tag) (i : ℕ) (e : IsCell a k (of_plain.One t i)) (b : i < first_inside)
+    (h : is_holder (code (tag_of t)) ≡ true) (table : Table) (input : List ℕ) (x : Core)
+    (l : look_in table input x ≡ look_component (Some (tree_at a k))) where
+  look_holder : look_in table input x ≡ seen.node (tag_of t) (tree_at a i ∷ [])
+  look_holder = l ∙ (ap (λ z. look_component (Some z)) e.is ∙ ap (seen.node (tag_of t)) (alone (tree_at a i) (single a i)))
+
+  pub component_is_held : Some (node_at a i) ≡ of_part (with_table table input) (Some x)
+  component_is_held =
+      ap Some (index_node a i b)
+      ∙ sym (printed_holder (with_table table input) x (tag_of t) (tree_at a i ∷ []) look_holder h)
+
+  pub component_is_handled : Some (node_at a i) ≡ of_handle (with_table table input) (Some x)
+  component_is_handled =
+      ap Some (index_node a i b)
+      ∙ sym (handled_holder (with_table table input) x (tag_of t) (tree_at a i ∷ []) look_holder h)
+
+-- an optional part that refers to a component
+pub refers_to_held : (a s : Arena) (k : ℕ) (t : kept.Tag) (i r : ℕ) (o : Option Core) (table : Table) (input : List ℕ)
+    → Sees a k (of_plain.One t i) → nat_eq (code (tag_of t)) 0 ≡ true → i < first_inside
+    → look_in table input (node_at a i) ≡ look_component o
+    → ((x : Core) → look_in table input x ≡ look_component o
+    → Some (node_at s r) ≡ of_handle (with_table table input) (Some x))
+    → Some (node_at s r) ≡ of_part (with_table table input) (Some (node_at a k))
+refers_to_held a s k t i r o table input e h b l f =
+    f (tree_at a i) (ap (look_in table input) (sym (index_node a i b)) ∙ l) ∙ is_optional a k t i e table input h
 
 -- ---- an optional part
 zero_code : (n : ℕ) → held_code n ≡ of_kept.Optional → nat_eq n 0 ≡ true

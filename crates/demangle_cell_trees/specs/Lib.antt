@@ -4,5 +4,6 @@ pub mod Codes
 pub mod NodeTrees
 pub mod Roles
 pub mod Steps
+pub mod Ends
 pub mod Held
 pub mod Known

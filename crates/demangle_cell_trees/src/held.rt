@@ -102,9 +102,12 @@ fn held_in(arena: &Arena, part: u64, subs: &Arena) -> u64
 /// The part that a component holds and that is printed for it, where its cell alone tells that.
 #[inline(always)]
 fn component_printed(found: Option<u32>, subs: &Arena) -> u64
-    ensures { result < first_inside → (table : Table) (input : List ℕ) (x : Core)
+    ensures part { result < first_inside → (table : Table) (input : List ℕ) (x : Core)
         → look_in table input x ≡ look_component (option_map (tree_at subs.now) found)
         → Some (node_at subs.now result) ≡ of_part (with_table table input) (Some x) }
+    ensures handle { result < first_inside → (table : Table) (input : List ℕ) (x : Core)
+        → look_in table input x ≡ look_component (option_map (tree_at subs.now) found)
+        → Some (node_at subs.now result) ≡ of_handle (with_table table input) (Some x) }
 {
     let Some(id) = found else {
         return ELSEWHERE;
@@ -119,22 +122,50 @@ fn component_printed(found: Option<u32>, subs: &Arena) -> u64
     }
 }
 
+/// The part that a component holds and that is printed for an optional part that refers to it, where the cells alone
+/// tell that.
+#[inline(always)]
+fn optional_printed(arena: &Arena, at: u64, tag: Tag, part: u32, subs: &Arena) -> u64
+    requires { Sees arena.now at (Plain.One tag part) }
+    ensures { result < first_inside → (input : List ℕ) → Some (node_at subs.now result)
+        ≡ of_part (with_table (table_of subs.now) input) (Some (node_at arena.now at)) }
+{
+    if number_of_tag(tag) == 0 && is_referring(part as u64) {
+        return component_printed(referred(part as u64, subs), subs);
+    }
+    ELSEWHERE
+}
+
+/// The part of a component that is printed for a node that refers to it, where the cells alone tell that.
+#[inline(always)]
+fn referring_printed(arena: &Arena, at: u64, subs: &Arena) -> u64
+    ensures { result < first_inside → (input : List ℕ) → Some (node_at subs.now result)
+        ≡ of_part (with_table (table_of subs.now) input) (Some (node_at arena.now at)) }
+{
+    if is_referring(at) {
+        return component_printed(referred(at, subs), subs);
+    }
+    match kept_of(arena, at) {
+        Some(Plain::One(tag, part)) => optional_printed(arena, at, tag, part, subs),
+        _ => ELSEWHERE,
+    }
+}
+
 /// What is printed for any tree.
-#[inline(never)]
+#[inline(always)]
 fn printed_other(arena: &Arena, at: u64, subs: &Arena) -> u64
     ensures { (input : List ℕ) → coded arena.now subs.now result
         ≡ of_part (with_table (table_of subs.now) input) (Some (node_at arena.now at)) }
 {
-    if is_referring(at) {
-        let part = component_printed(referred(at, subs), subs);
-        if part < FIRST_INSIDE {
-            return OF_OTHERS + part;
-        }
+    let part = referring_printed(arena, at, subs);
+    if part < FIRST_INSIDE {
+        return OF_OTHERS + part;
     }
     any_printed(arena, at, subs)
 }
 
 /// What is printed for any tree, by what it is.
+#[inline(never)]
 fn any_printed(arena: &Arena, at: u64, subs: &Arena) -> u64
     ensures { (input : List ℕ) → coded arena.now subs.now result
         ≡ of_part (with_table (table_of subs.now) input) (Some (node_at arena.now at)) }

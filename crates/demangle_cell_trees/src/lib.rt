@@ -3,7 +3,10 @@
 
 mod cells;
 mod codes;
+mod components;
 mod counts;
+mod ends;
+mod found;
 mod held;
 mod known;
 mod laws;
@@ -20,5 +23,6 @@ mod turns;
 mod values;
 mod words;
 
+pub use components::Components;
 pub use laws::each_arena_has_trees;
 pub use node::{Node, tree_at};

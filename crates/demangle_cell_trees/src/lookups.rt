@@ -8,7 +8,7 @@ ghost use Rattle.demangle_cells.specs.declared.arena.Arena.{Arena};
 ghost use Rattle.demangle_cell_trees.specs.ArenaTrees.{table_of, tree_at};
 ghost use Rattle.demangle_cell_trees.specs.Codes.{IsPart};
 ghost use Rattle.demangle_cell_trees.specs.NodeTrees.{node_tree};
-ghost use Rattle.demangle_cell_trees.specs.Steps.{arguments_in, component_in, found_in, holds_it};
+ghost use Rattle.demangle_cell_trees.specs.Steps.{arguments_in, component_in, holds_it};
 ghost use Rattle.demangle_cell_trees.specs.Steps.{part_says, step_in, step_of};
 ghost use Rattle.demangle_cell_trees.specs.declared.roles.Sought.{Sought};
 
@@ -35,7 +35,7 @@ fn reference_step(id: u32) -> u64
 }
 
 /// Where a look-up comes to in a tree.
-fn node_step(sought: Sought, arena: &Arena, id: u32) -> u64
+pub(crate) fn node_step(sought: Sought, arena: &Arena, id: u32) -> u64
     ensures { step_of arena.now result ≡ step_in sought (tree_at arena.now id) }
 {
     if id >= FIRST_REFERENCE {
@@ -126,7 +126,7 @@ fn found_step(sought: Sought, found: Option<u32>, subs: &Arena) -> u64
 }
 
 /// One turn: a component gives way to where its own step comes to.
-fn after(sought: Sought, step: u64, subs: &Arena) -> u64
+pub(crate) fn after(sought: Sought, step: u64, subs: &Arena) -> u64
     ensures { step_of subs.now result ≡ after (component_in sought) (table_of subs.now) (step_of subs.now step) }
 {
     let number = low_half(step);
@@ -139,7 +139,7 @@ fn after(sought: Sought, step: u64, subs: &Arena) -> u64
 
 /// Whether it has come to a component.
 #[inline(always)]
-fn refers(step: u64) -> bool
+pub(crate) fn refers(step: u64) -> bool
     ensures { (a : Arena) → result ≡ refers (step_of a step) }
 {
     step >= FIRST_NUMBERED && step < PAST_STEPS
@@ -147,7 +147,7 @@ fn refers(step: u64) -> bool
 
 /// The answer, where it has come to one.
 #[inline(always)]
-fn answer_of<'a>(arena: &'a Arena, step: u64) -> Option<Node<'a>>
+pub(crate) fn answer_of<'a>(arena: &'a Arena, step: u64) -> Option<Node<'a>>
     ensures { option_map node_tree result ≡ answer_of (step_of arena.now step) }
 {
     if step < FIRST_NUMBERED {
@@ -159,7 +159,7 @@ fn answer_of<'a>(arena: &'a Arena, step: u64) -> Option<Node<'a>>
 /// What is looked up from the step to a component on. References are followed by a loop, at most as often as there are
 /// components.
 #[tactic(auto, using(demangle_core::proofs::Resolved::following))]
-fn settled(sought: Sought, first: u64, subs: &Arena) -> u64
+pub(crate) fn settled(sought: Sought, first: u64, subs: &Arena) -> u64
     ensures { answer_of (step_of subs.now result)
         ≡ settled (component_in sought) (table_of subs.now) (step_of subs.now first) }
 {
@@ -170,15 +170,4 @@ fn settled(sought: Sought, first: u64, subs: &Arena) -> u64
         more -= 1;
     }
     step
-}
-
-/// What is looked up in a tree.
-pub(crate) fn found<'a>(sought: Sought, node: Node<'a>, subs: &'a Arena) -> Option<Node<'a>>
-    ensures { option_map node_tree result ≡ found_in sought (table_of subs.now) (node_tree node.entry) }
-{
-    let step = node_step(sought, node.arena, low_half(node.at));
-    if step < FIRST_NUMBERED {
-        return answer_of(node.arena, step);
-    }
-    answer_of(subs, settled(sought, step, subs))
 }

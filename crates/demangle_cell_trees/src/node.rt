@@ -4,6 +4,7 @@ ghost use Rattle.std.specs.Prelude.{◌≡◌};
 ghost use Rattle.demangle_cell_trees.specs.ArenaTrees.{tree_at};
 ghost use Rattle.demangle_cell_trees.specs.NodeTrees.{node_tree};
 
+use crate::components::Components;
 use demangle_cells::Arena;
 use demangle_context::{InnerNode, RefersTo};
 
@@ -20,10 +21,10 @@ impl<'a> InnerNode for Node<'a> {
     ghost tree = { node_tree };
 }
 
-impl<'a> RefersTo<&'a Arena> for Node<'a> {
-    ghost use Rattle.demangle_cell_trees.specs.ArenaTrees.{table_of};
+impl<'a> RefersTo<Components<'a>> for Node<'a> {
+    ghost use Rattle.demangle_cell_trees.specs.NodeTrees.{table_in};
 
-    ghost table = { λ arena. table_of arena.now };
+    ghost table = { table_in };
 }
 
 /// The tree of an index.

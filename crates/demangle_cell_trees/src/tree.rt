@@ -1,37 +1,37 @@
 //! Nodes as the trees of lines.
 
+use crate::components::Components;
 use crate::counts::count_of;
+use crate::found::found;
 use crate::held::printed_of;
 use crate::known::{is_unqualified, plain_name_of};
-use crate::lookups::found;
 use crate::node::Node;
 use crate::parts::part_of;
 use crate::roles::Sought;
 use crate::shapes::shape_of;
 use crate::texts::{leaf_text_of, text_of};
 use crate::values::{began_of, bytes_of, index_in, number_in};
-use demangle_cells::Arena;
 use demangle_lines::{Number, Shape, Tree};
 
-impl<'a> Tree<&'a Arena> for Node<'a> {
+impl<'a> Tree<Components<'a>> for Node<'a> {
     #[inline(always)]
-    fn shape(self, subs: &&'a Arena) -> Shape {
-        shape_of(self, *subs)
+    fn shape(self, subs: &Components<'a>) -> Shape {
+        shape_of(self, subs.arena)
     }
 
     #[inline(always)]
-    fn count(self, subs: &&'a Arena) -> usize {
-        count_of(self, *subs)
+    fn count(self, subs: &Components<'a>) -> usize {
+        count_of(self, subs.arena)
     }
 
     #[inline(always)]
-    fn part(self, number: usize, subs: &&'a Arena) -> Option<Node<'a>> {
-        part_of(self, number, *subs)
+    fn part(self, number: usize, subs: &Components<'a>) -> Option<Node<'a>> {
+        part_of(self, number, subs.arena)
     }
 
     #[inline(always)]
-    fn printed(self, subs: &&'a Arena) -> Option<Node<'a>> {
-        printed_of(self, *subs)
+    fn printed(self, subs: &Components<'a>) -> Option<Node<'a>> {
+        printed_of(self, subs.arena)
     }
 
     #[inline(always)]
@@ -70,22 +70,22 @@ impl<'a> Tree<&'a Arena> for Node<'a> {
     }
 
     #[tactic(auto, unfolding(demangle_core::specs::Lookups::leaf_name))]
-    fn leaf_name(self, subs: &&'a Arena) -> Option<Node<'a>> {
-        found(Sought::LeafName, self, *subs)
+    fn leaf_name(self, subs: &Components<'a>) -> Option<Node<'a>> {
+        found(Sought::LeafName, self, subs)
     }
 
     #[tactic(auto, unfolding(demangle_core::specs::Lookups::template_args))]
-    fn prefix_arguments(self, subs: &&'a Arena) -> Option<Node<'a>> {
-        found(Sought::PrefixArguments, self, *subs)
+    fn prefix_arguments(self, subs: &Components<'a>) -> Option<Node<'a>> {
+        found(Sought::PrefixArguments, self, subs)
     }
 
     #[tactic(auto, unfolding(demangle_core::specs::Lookups::template_args))]
-    fn type_arguments(self, subs: &&'a Arena) -> Option<Node<'a>> {
-        found(Sought::TypeArguments, self, *subs)
+    fn type_arguments(self, subs: &Components<'a>) -> Option<Node<'a>> {
+        found(Sought::TypeArguments, self, subs)
     }
 
     #[tactic(auto, unfolding(demangle_core::specs::Lookups::is_special))]
-    fn is_special(self, subs: &&'a Arena) -> bool {
-        found(Sought::Special, self, *subs).is_some()
+    fn is_special(self, subs: &Components<'a>) -> bool {
+        found(Sought::Special, self, subs).is_some()
     }
 }

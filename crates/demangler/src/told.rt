@@ -8,7 +8,7 @@ ghost use Rattle.demangler.specs.Answer.{answer_of};
 ghost use Rattle.demangler.specs.NameTold.{IsToldAnswer, KeepsFaults, Lengthens, NameTold, may_be_told};
 
 use crate::fault::{SymbolFault, print_fault, read_fault};
-use demangle_cell_trees::tree_at;
+use demangle_cell_trees::{Components, tree_at};
 use demangle_cells::Arena;
 use demangle_context::{DemangleError, DemangleOptions, DemangleWrite, InnerItems};
 use demangle_lines_print::tell;
@@ -30,9 +30,12 @@ fn tree_told<W: DemangleWrite>(
     ensures { Tells (W.seen out.old) (W.seen out.new) print.now.limit
         (telling (table_of arena.now) bytes.now print.now (tree_at arena.now id)) result }
 {
+    let Ok(components) = Components::of(alloc, arena) else {
+        return Err(DemangleError::OutOfMemory);
+    };
     match InnerItems::new(alloc, print.limit()) {
         Ok(items) => {
-            let (_items, answer) = tell(items, tree_at(arena, id), &arena, bytes, print, out);
+            let (_items, answer) = tell(items, tree_at(arena, id), &components, bytes, print, out);
             answer
         }
         Err(_) => Err(DemangleError::OutOfMemory),
