@@ -75,7 +75,7 @@ class Choice:
         body = "    match number {\n%s        _ => {}\n    }\n" % arms
         clauses = ["requires can { B.can below }", "requires block { number / %d ≡ %d }" % (A_BLOCK, number)]
         doc = "The lines of the nodes whose tags have the numbers from %d on." % first
-        code = line_code("pub(crate) fn", "block_%d" % number, doc, clauses, body)
+        code = line_code("pub(crate) fn", "block_%d" % number, doc, clauses, body, "#[inline(always)]")
         return code, answers, [pair for pair in called if pair[0]]
 
     def top(self):

@@ -57,6 +57,7 @@ pub struct Context<'a, 'w, T: Copy, S: 'a, W: 'w> {
 }
 
 /// The last character of a text, `None` where it is empty.
+#[inline(always)]
 fn last_char(s: &str) -> Option<char>
     ensures { 0 < length s.now → IsSomeAnd result (EndsIn s.now) }
 {

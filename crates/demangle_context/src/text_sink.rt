@@ -52,6 +52,7 @@ impl DemangleWrite for TextSink {
 
     fn push_demangle_node(&mut self, _kind: DemangleNodeType) {}
 
+    #[inline(always)]
     fn write_string(&mut self, s: &str) -> Result<(), SinkFault> {
         match self.text.push_str(s) {
             Ok(()) => Ok(()),

@@ -47,6 +47,7 @@ impl DemangleWrite for Gathering {
 
     fn push_demangle_node(&mut self, _kind: DemangleNodeType) {}
 
+    #[inline(always)]
     fn write_string(&mut self, s: &str) -> Result<(), SinkFault> {
         match self.gathered.extend_from_slice(s.as_bytes()) {
             Ok(()) => Ok(()),

@@ -55,6 +55,7 @@ pub fn line_of<'s, T: Tree<S>, S: 's, W: DemangleWrite, B: Below<'s, T, S, W>>(
 }
 
 /// The line of a part.
+#[inline(always)]
 pub fn part<'s, T: Tree<S>, S: 's, W: DemangleWrite, B: Below<'s, T, S, W>>(
     below: B,
     tree: T,

@@ -129,6 +129,7 @@ fn plain_line<'s, T: Tree<S>, S: 's, W: DemangleWrite, B: Below<'s, T, S, W>>(
 }
 
 /// The line of a part that often is an unqualified name of an identifier alone.
+#[inline(always)]
 pub fn name_part<'s, T: Tree<S>, S: 's, W: DemangleWrite, B: Below<'s, T, S, W>>(
     below: B,
     tree: T,

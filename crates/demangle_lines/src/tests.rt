@@ -66,6 +66,7 @@ fn is_shape_word(shape: Shape, table: u8, word: u8) -> bool
 }
 
 /// Whether an optional part is there.
+#[inline(always)]
 pub fn is_there<'s, T: Tree<S>, S: 's, W: DemangleWrite, B: Below<'s, T, S, W>>(
     below: B,
     tree: T,
@@ -77,6 +78,7 @@ pub fn is_there<'s, T: Tree<S>, S: 's, W: DemangleWrite, B: Below<'s, T, S, W>>(
 }
 
 /// Whether a part says that something is so.
+#[inline(always)]
 pub fn is_true<'s, T: Tree<S>, S: 's, W: DemangleWrite, B: Below<'s, T, S, W>>(
     below: B,
     tree: T,
@@ -88,6 +90,7 @@ pub fn is_true<'s, T: Tree<S>, S: 's, W: DemangleWrite, B: Below<'s, T, S, W>>(
 }
 
 /// Whether a part is this word.
+#[inline(always)]
 pub fn is_word<'s, T: Tree<S>, S: 's, W: DemangleWrite, B: Below<'s, T, S, W>>(
     below: B,
     tree: T,
@@ -101,6 +104,7 @@ pub fn is_word<'s, T: Tree<S>, S: 's, W: DemangleWrite, B: Below<'s, T, S, W>>(
 }
 
 /// Whether a part of a part is this word.
+#[inline(always)]
 pub fn is_inner_word<'s, T: Tree<S>, S: 's, W: DemangleWrite, B: Below<'s, T, S, W>>(
     below: B,
     tree: T,
@@ -183,6 +187,7 @@ fn is_unqualified<T: Tree<S>, S>(found: Option<T>) -> bool
 }
 
 /// Whether some part of a list says that something is so.
+#[inline(always)]
 pub fn any_set<'s, T: Tree<S>, S: 's, W: DemangleWrite, B: Below<'s, T, S, W>>(
     below: B,
     list: Option<T>,
@@ -203,6 +208,7 @@ pub fn any_set<'s, T: Tree<S>, S: 's, W: DemangleWrite, B: Below<'s, T, S, W>>(
 }
 
 /// Whether some qualifier is there.
+#[inline(always)]
 pub fn is_qualified<'s, T: Tree<S>, S: 's, W: DemangleWrite, B: Below<'s, T, S, W>>(
     below: B,
     tree: T,
@@ -227,6 +233,7 @@ fn prefix_has_arguments<'s, T: Tree<S>, S: 's, W: DemangleWrite, B: Below<'s, T,
 }
 
 /// Whether a part has template arguments, as a name.
+#[inline(always)]
 pub fn has_prefix_arguments<'s, T: Tree<S>, S: 's, W: DemangleWrite, B: Below<'s, T, S, W>>(
     below: B,
     tree: T,

@@ -74,6 +74,7 @@ fn write_number<'s, T: RefersTo<S>, S: 's, W: DemangleWrite>(
 }
 
 /// The text of a word, the bytes of a place, a number.
+#[inline(always)]
 pub fn spelled_itself<'s, T: Tree<S>, S: 's, W: DemangleWrite, B: Below<'s, T, S, W>>(
     below: B,
     tree: T,

@@ -16,6 +16,7 @@ use demangle_lines_names::{
 use demangle_lines_special::resource_name;
 
 /// The lines of the nodes whose tags have the numbers from 0 on.
+#[inline(always)]
 pub(crate) fn block_0<'s, T: Tree<S>, S: 's, W: DemangleWrite, B: Below<'s, T, S, W>>(
     below: B,
     number: u8,

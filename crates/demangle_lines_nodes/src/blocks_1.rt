@@ -15,6 +15,7 @@ use demangle_lines_special::{call_offset_non_virtual, call_offset_virtual};
 use demangle_lines_types::{cv_qualifiers, parametric_builtin_type_float_n, qualified_builtin};
 
 /// The lines of the nodes whose tags have the numbers from 16 on.
+#[inline(always)]
 pub(crate) fn block_1<'s, T: Tree<S>, S: 's, W: DemangleWrite, B: Below<'s, T, S, W>>(
     below: B,
     number: u8,

@@ -17,6 +17,7 @@ use demangle_lines_special::{special_name_non_transaction_clone, special_name_tr
 use demangle_lines_types::{decltype_id_expression, type_node_qualified};
 
 /// The lines of the nodes whose tags have the numbers from 160 on.
+#[inline(always)]
 pub(crate) fn block_10<'s, T: Tree<S>, S: 's, W: DemangleWrite, B: Below<'s, T, S, W>>(
     below: B,
     number: u8,

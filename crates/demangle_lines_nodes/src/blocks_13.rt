@@ -11,6 +11,7 @@ use demangle_context::{Context, DemangleWrite};
 use demangle_lines::{Below, Scope, Tree};
 
 /// The lines of the nodes whose tags have the numbers from 208 on.
+#[inline(always)]
 pub(crate) fn block_13<'s, T: Tree<S>, S: 's, W: DemangleWrite, B: Below<'s, T, S, W>>(
     below: B,
     number: u8,

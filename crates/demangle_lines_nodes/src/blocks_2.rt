@@ -20,6 +20,7 @@ use demangle_lines_types::{
 };
 
 /// The lines of the nodes whose tags have the numbers from 32 on.
+#[inline(always)]
 pub(crate) fn block_2<'s, T: Tree<S>, S: 's, W: DemangleWrite, B: Below<'s, T, S, W>>(
     below: B,
     number: u8,

@@ -18,6 +18,7 @@ use demangle_lines_names::{
 use demangle_lines_types::type_node_qualified;
 
 /// The lines of the nodes whose tags have the numbers from 48 on.
+#[inline(always)]
 pub(crate) fn block_3<'s, T: Tree<S>, S: 's, W: DemangleWrite, B: Below<'s, T, S, W>>(
     below: B,
     number: u8,

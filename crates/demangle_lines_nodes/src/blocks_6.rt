@@ -18,6 +18,7 @@ use demangle_lines_expressions::{
 };
 
 /// The lines of the nodes whose tags have the numbers from 96 on.
+#[inline(always)]
 pub(crate) fn block_6<'s, T: Tree<S>, S: 's, W: DemangleWrite, B: Below<'s, T, S, W>>(
     below: B,
     number: u8,

@@ -17,6 +17,7 @@ use demangle_lines_expressions::{
 };
 
 /// The lines of the nodes whose tags have the numbers from 112 on.
+#[inline(always)]
 pub(crate) fn block_7<'s, T: Tree<S>, S: 's, W: DemangleWrite, B: Below<'s, T, S, W>>(
     below: B,
     number: u8,

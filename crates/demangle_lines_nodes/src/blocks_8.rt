@@ -16,6 +16,7 @@ use demangle_lines_expressions::{
 use demangle_lines_types::type_node_template_template;
 
 /// The lines of the nodes whose tags have the numbers from 128 on.
+#[inline(always)]
 pub(crate) fn block_8<'s, T: Tree<S>, S: 's, W: DemangleWrite, B: Below<'s, T, S, W>>(
     below: B,
     number: u8,

@@ -19,6 +19,7 @@ use demangle_lines_special::{
 };
 
 /// The lines of the nodes whose tags have the numbers from 144 on.
+#[inline(always)]
 pub(crate) fn block_9<'s, T: Tree<S>, S: 's, W: DemangleWrite, B: Below<'s, T, S, W>>(
     below: B,
     number: u8,

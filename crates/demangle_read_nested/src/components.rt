@@ -17,6 +17,7 @@ use demangle_text::Result;
 
 /// A prefix of one part, ABI section 5.1.2, <prefix>: the reference to it, and where the text goes on. Where `E` is
 /// next the whole name ends with it, and it goes to the second list. `OutOfMemory` is the one refusal.
+#[inline(always)]
 #[tactic(auto, using(demangle_cells::proofs::Grows::grows))]
 pub fn add_prefix_of_one(
     arena: &mut Arena,
@@ -40,6 +41,7 @@ pub fn add_prefix_of_one(
 }
 
 /// The same of a prefix of two parts, of which the second was read last.
+#[inline(always)]
 #[tactic(auto, using(demangle_cells::proofs::Grows::grows))]
 pub fn add_prefix_of_two(
     arena: &mut Arena,
@@ -68,6 +70,7 @@ pub fn add_prefix_of_two(
 }
 
 /// The prefix of this index, as a component of the list that the next byte tells.
+#[inline(always)]
 fn add_prefix(arena: &mut Arena, text: Text<'_>, at: u32, prefix: u32) -> Result<u32>
     ensures grown { Grown (view arena.old) (view arena.new) }
     ensures reference { IfOk result (λ i. (F : ℕ → Core) → Holds F (view arena.new)
@@ -83,6 +86,7 @@ fn add_prefix(arena: &mut Arena, text: Text<'_>, at: u32, prefix: u32) -> Result
 }
 
 /// The entry of a prefix, as a component of one of the two lists: the reference to it.
+#[inline(always)]
 #[tactic(auto, using(demangle_cells::proofs::Grows::grows))]
 fn add_entry(arena: &mut Arena, numbered: bool, prefix: u32) -> Result<u32>
     ensures grown { Grown (view arena.old) (view arena.new) }

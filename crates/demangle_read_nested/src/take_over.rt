@@ -18,6 +18,7 @@ use demangle_text::{Error, Result};
 
 /// The nested name of these parts: its last name is that of its prefix. `UnexpectedText` where the prefix ends with no
 /// name and no template arguments.
+#[inline(always)]
 #[tactic(auto, using(demangle_cells::proofs::Grows::grows, crate::proofs::TakenOver::takes))]
 pub fn take_over(arena: &mut Arena, qualifiers: NestedQualifiers, prefix: u32) -> Result<u32>
     ensures grown { Grown (view arena.old) (view arena.new) }
@@ -36,6 +37,7 @@ pub fn take_over(arena: &mut Arena, qualifiers: NestedQualifiers, prefix: u32) -
 }
 
 /// The nested name that ends with this name, which has a scope or none. The prefix that it is made of is no part of it.
+#[inline(always)]
 #[tactic(auto, using(demangle_cells::proofs::Grows::grows, crate::proofs::TakenOver::names))]
 fn and_name(arena: &mut Arena, qualifiers: NestedQualifiers, scope: u32, name: u32) -> Result<u32>
     ensures grown { Grown (view arena.old) (view arena.new) }
@@ -68,6 +70,7 @@ fn and_name(arena: &mut Arena, qualifiers: NestedQualifiers, scope: u32, name: u
 }
 
 /// The nested name that ends with template arguments, which are the last of its prefix.
+#[inline(always)]
 #[tactic(auto, using(demangle_cells::proofs::Grows::grows, crate::proofs::TakenOver::names))]
 fn and_template(arena: &mut Arena, qualifiers: NestedQualifiers, prefix: u32) -> Result<u32>
     ensures grown { Grown (view arena.old) (view arena.new) }

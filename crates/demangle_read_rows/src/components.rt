@@ -20,6 +20,7 @@ use demangle_text::Result;
 
 /// A component of one node over a tree.
 #[tactic(auto, using(demangle_cells::proofs::Grows::grows))]
+#[inline(always)]
 fn add_over(arena: &mut Arena, numbered: bool, tag: CellTag, part: u32) -> Result<u32>
     ensures grown { Grown (view arena.old) (view arena.new) }
     ensures reference { IfOk result (λ r. (F : ℕ → Core) → Holds F (view arena.new)
@@ -35,6 +36,7 @@ fn add_over(arena: &mut Arena, numbered: bool, tag: CellTag, part: u32) -> Resul
 
 /// A component of one node over a cell.
 #[tactic(auto, using(demangle_cells::proofs::Grows::grows))]
+#[inline(always)]
 fn add_cell(arena: &mut Arena, numbered: bool, tag: CellTag, cell: Cell) -> Result<u32>
     ensures grown { Grown (view arena.old) (view arena.new) }
     ensures adds { Adds (which_of numbered) (λ F list. node (tag_of tag) (tree F list cell) end)
