@@ -8,6 +8,17 @@ use std::alloc::{AllocError, Global};
 /// The bytes, the limit on levels, and what the reading answers.
 pub(crate) type Reading = (&'static [u8], u32, &'static str);
 
+/// A front, a unit with how often it comes, what stands behind, the limit on levels, and what reading all of it
+/// answers.
+pub(crate) type Crafted = (
+    &'static [u8],
+    &'static [u8],
+    usize,
+    &'static [u8],
+    u32,
+    &'static str,
+);
+
 /// More components than any name here has.
 const MANY: u32 = 64;
 
@@ -97,6 +108,36 @@ pub(crate) fn first_wrong_whole(
         let answer = whole(alloc, arena, bytes, limit);
         if !is_text(answer, wanted) {
             return Some(i);
+        }
+    }
+    None
+}
+
+/// The bytes of a crafted name.
+fn made(alloc: Global, crafted: &Crafted) -> Result<Vec<u8>, AllocError> {
+    let (front, unit, times, behind, _, _) = *crafted;
+    let mut bytes = Vec::new(alloc);
+    bytes.extend_from_slice(front)?;
+    for _ in 0..times {
+        bytes.extend_from_slice(unit)?;
+    }
+    bytes.extend_from_slice(behind)?;
+    Ok(bytes)
+}
+
+/// The number of the first crafted name that is read whole otherwise than its text says.
+pub(crate) fn first_wrong_crafted(
+    alloc: Global,
+    arena: &mut Arena,
+    names: &[Crafted],
+) -> Option<usize> {
+    for (i, name) in names.iter().enumerate() {
+        let (_, _, _, _, limit, wanted) = *name;
+        match made(alloc, name) {
+            Ok(bytes) => if !is_text(whole(alloc, arena, &bytes, limit), wanted) {
+                return Some(i);
+            },
+            Err(_) => return Some(i),
         }
     }
     None

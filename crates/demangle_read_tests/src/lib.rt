@@ -10,3 +10,5 @@ mod checks;
 mod names;
 #[cfg(test)]
 mod readings;
+#[cfg(test)]
+mod sizes;

@@ -1,6 +1,6 @@
 //! Names, and what reading them answers.
 
-use crate::answers::Reading;
+use crate::answers::{Crafted, Reading};
 
 /// Names at the front.
 pub(crate) static FRONTS: [Reading; 25] = [
@@ -43,4 +43,51 @@ pub(crate) static WHOLES: [Reading; 6] = [
     (b"_ZGR1a0_E", 96, "UnexpectedText"),
     (b"_ZGR1a0_", 96, "encoding, components 0 0"),
     (b"i", 4, "TooMuchRecursion"),
+];
+
+/// Crafted names: parts of them fail, and are read again.
+pub(crate) static CRAFTED: [Crafted; 22] = [
+    (b"_Z1fIX", b"nw", 9, b"", 96, "UnexpectedText"),
+    (b"_Z1fIX", b"na", 9, b"", 1024, "UnexpectedText"),
+    (
+        b"_Z1fIXil",
+        b"nwtrtrtr",
+        8,
+        b"EEEvv",
+        96,
+        "encoding, components 1 0",
+    ),
+    (b"_Z1f", b"SaI", 9, b"", 96, "UnexpectedText"),
+    (b"_Z1f1a", b"S_I", 9, b"", 1024, "UnexpectedText"),
+    (b"_Z1f", b"SaI1x", 8, b"", 96, "UnexpectedText"),
+    (b"_Z1fIX", b"LA", 9, b"", 96, "UnexpectedText"),
+    (b"_Z1fIX", b"LDt", 9, b"", 96, "UnexpectedText"),
+    (b"_Z1f", b"IL1a", 7, b"", 1024, "UnexpectedText"),
+    (b"_Z1f", b"IL1a", 10, b"", 63, "TooMuchRecursion"),
+    (b"_Z1f", b"CI1", 10, b"", 1024, "UnexpectedText"),
+    (b"_Z1f", b"CI1", 36, b"", 1024, "UnexpectedText"),
+    (b"_Z1f", b"CI1", 8, b"", 67, "TooMuchRecursion"),
+    (b"_Z1f", b"CI1", 8, b"", 68, "UnexpectedText"),
+    (b"_Z", b"UlTs", 9, b"", 96, "UnexpectedText"),
+    (b"_Z", b"cvTs", 9, b"", 96, "UnexpectedText"),
+    (b"_ZN1acv", b"T_I", 10, b"", 96, "UnexpectedText"),
+    (b"_ZN1acv", b"T_I", 8, b"E", 96, "UnexpectedText"),
+    (b"_ZN1acv", b"T_IN1a1bE", 8, b"", 96, "UnexpectedText"),
+    (
+        b"_Z1f",
+        b"N1acvT_I",
+        6,
+        b"iEEEEEEEEEEEE",
+        96,
+        "encoding, components 24 6",
+    ),
+    (
+        b"_Z1f",
+        b"N1acvT_I",
+        8,
+        b"iEEEEEEEEEEEEEEEE",
+        96,
+        "TooMuchRecursion",
+    ),
+    (b"_Z1f", b"St6vectorI", 9, b"", 96, "UnexpectedText"),
 ];
