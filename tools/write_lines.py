@@ -10,9 +10,7 @@ it says which files aren't what would be written, and fails where there is one.
 import os
 import re
 import shutil
-import subprocess
 import sys
-import tempfile
 
 import antt
 import line_choice
@@ -20,6 +18,7 @@ import line_functions
 import line_uses
 import lines
 from line_terms import Cannot, wrapped
+from written import formatted
 
 # the crates, by the data's file of which the lines are
 GROUPS = {"demangle_lines_special": "SpecialNames", "demangle_lines_arguments": "Arguments",
@@ -164,19 +163,6 @@ def written_files(name):
 def is_written(file):
     return bool(re.match(r"(src/(lib|nodes|insides|(lines|choices|blocks)\w*)\.rt|specs/(Choices|Lib|Tags)\.antt|"
                          r"proofs/((?:Lib|Nothing).antt|(lines|choices|blocks|nodes|insides)\w*/.*))$", file))
-
-
-def formatted(name, files):
-    """The same files as the kit's formatter writes them."""
-    with tempfile.TemporaryDirectory() as top:
-        folder = os.path.join(top, "crates", name)
-        write(folder, files, [])
-        with open(os.path.join(top, "crates.txt"), "w") as target:
-            target.write("%s:\n" % name)
-        done = subprocess.run(["rt", "fmt"], cwd=folder, capture_output=True, text=True)
-        if done.returncode:
-            sys.exit("rt fmt: " + done.stdout + done.stderr)
-        return {path: read(os.path.join(folder, path)) for path in files}
 
 
 def read(path):
