@@ -33,8 +33,8 @@ use Rattle.demangle_outline.proofs.Levels.{more_levels}
 use Rattle.demangle_outline.proofs.Sees.{same_refusals}
 use Rattle.demangle_cells.proofs.Sets.{reply_set}
 use Rattle.demangle_cells.proofs.Grows.{cut_holds}
-use Rattle.demangle_cells.proofs.Stamps.{chain_on, chain_same, stamped_none, stamped_on, stamped_cut, stamped_more}
-use Rattle.demangle_cells.proofs.Stamps.{chain_at, get_end, same_some}
+use Rattle.demangle_cells.proofs.Stamps.{chain_on, chain_same, stamped_none, stamped_on, stamped_cut, stamped_grown}
+use Rattle.demangle_cells.proofs.Stamps.{stamped_more, chain_at, get_end, same_some, grown_length}
 
 -- what is said of a list's items of which there are none
 none_among : {A : Type 0} (x : A) (xs : List A) → xs ≡ [] → IsAmong x xs → ⊥
@@ -74,52 +74,44 @@ known_grown bytes log a b x g h = record {
   told = tells_grown bytes log a b x h.before x.outcome g h.told;
 }
 
-pub memo_none : (v : View) (m : Memory) → m.stamps ≡ [] → v.entries ≡ [] → m.known ≡ [] → ∥ IsMemo v m ∥₁
-memo_none v m s e f = ∣ record {
-  stamped = stamped_none m.log m.stamps v.entries s e;
+pub memo_none : (v : View) (m : Memory) → m.stamps ≡ [] → m.known ≡ [] → ∥ IsMemo v m ∥₁
+memo_none v m s f = ∣ record {
+  stamped = stamped_none m.log m.stamps v.entries s;
   known = λ x h. absurd (none_among x m.known f h);
 } ∣₁
 
--- more trees, the same components
-pub memo_on : (a b : View) (m : Memory) → ((F : ℕ → Core) → Holds F b → Holds F a) → b.entries ≡ a.entries
-    → ∥ IsMemo a m ∥₁ → ∥ IsMemo b m ∥₁
-memo_on a b m g e h = ∥∥₁_map h (λ k. record {
-  stamped = subst (λ es. Stamped m.log m.stamps es) (sym e) k.stamped;
-  known = λ x i. known_grown m.text m.log a b x g (k.known x i);
+-- more trees, more components
+pub memo_grown : (a b : View) (m : Memory) → Grown a b → ∥ IsMemo a m ∥₁ → ∥ IsMemo b m ∥₁
+memo_grown a b m g h = ∥∥₁_map h (λ k. record {
+  stamped = stamped_grown m.log m.stamps a.entries b.entries k.stamped g.entries;
+  known = λ x i. known_grown m.text m.log a b x g.holds (k.known x i);
 })
 
-pub memo_pushed : (a b : View) (m : Memory) → Grown a b → b.entries ≡ a.entries → ∥ IsMemo a m ∥₁ → ∥ IsMemo b m ∥₁
-memo_pushed a b m g = memo_on a b m g.holds
-
+-- more trees, the same components
 pub memo_kept : (a b : View) (m : Memory) → KeepsTrees a b → ∥ IsMemo a m ∥₁ → ∥ IsMemo b m ∥₁
-memo_kept a b m g = memo_on a b m g.holds g.entries
+memo_kept a b m g h = ∥∥₁_map h (λ k. record {
+  stamped = subst (λ es. Stamped m.log m.stamps es) (sym g.entries) k.stamped;
+  known = λ x i. known_grown m.text m.log a b x g.holds (k.known x i);
+})
 
--- a component more
-pub memo_added : (a b : View) (m n : Memory) (s : ℕ) (e : made.Entry) → Grown a b → b.entries ≡ a.entries ++ e ∷ []
-    → 0 < s
+-- a component gets its stamp
+pub memo_stamped : (v : View) (m n : Memory) (s : ℕ) (e : made.Entry)
+    → slice_get v.entries (length m.stamps) ≡ Some e → 0 < s
     → slice_get m.log (s - 1) ≡ Some (record {
-      before = stamp_at (length a.entries) m.stamps;
+      before = stamp_at (length m.stamps) m.stamps;
       numbered = e.numbered;
       id = e.id;
     })
-    → n.log ≡ m.log → n.stamps ≡ m.stamps ++ s ∷ [] → n.known ≡ m.known → n.text ≡ m.text → ∥ IsMemo a m ∥₁
-    → ∥ IsMemo b n ∥₁
-memo_added a b m n s e g t p i l st f x h = ∥∥₁_map h (λ k. record {
+    → n.log ≡ m.log → n.stamps ≡ m.stamps ++ s ∷ [] → n.known ≡ m.known → n.text ≡ m.text → ∥ IsMemo v m ∥₁
+    → ∥ IsMemo v n ∥₁
+memo_stamped v m n s e w p i l st f x h = ∥∥₁_map h (λ k. record {
   stamped =
-      subst (λ lo. Stamped lo n.stamps b.entries) (sym l)
-      (subst (λ ss. Stamped m.log ss b.entries) (sym st)
-      (subst (λ es. Stamped m.log (m.stamps ++ s ∷ []) es) (sym t)
-      (stamped_more m.log m.stamps a.entries s e k.stamped p i)));
-  known = λ y w. of_same y (k.known y (y_among y w));
+      subst (λ lo. Stamped lo n.stamps v.entries) (sym l)
+      (subst (λ ss. Stamped m.log ss v.entries) (sym st) (stamped_more m.log m.stamps v.entries s e k.stamped w p i));
+  known = λ y j.
+      subst (λ lo. IsKnown n.text lo v y) (sym l)
+      (subst (λ tx. IsKnown tx m.log v y) (sym x) (k.known y (subst (λ fs. IsAmong y fs) f j)));
 })
-  where
-    y_among : (y : known.Known) → IsAmong y n.known → IsAmong y m.known
-    y_among y w = subst (λ fs. IsAmong y fs) f w
-
-    of_same : (y : known.Known) → IsKnown m.text m.log a y → IsKnown n.text n.log b y
-    of_same y h =
-        subst (λ lo. IsKnown n.text lo b y) (sym l)
-        (subst (λ tx. IsKnown tx m.log b y) (sym x) (known_grown m.text m.log a b y g.holds h))
 
 -- fewer components
 pub memo_cut : (a b : View) (m n : Memory) (k : mark.Mark) → IsCut k a b → n.log ≡ m.log
@@ -170,18 +162,53 @@ memo_for v m n l st f t h = ∥∥₁_map h (λ i. record {
     by y (inl e) h w = subst (λ tx. IsKnown tx m.log v y) (sym e) (h y w)
     by y (inr e) h w = absurd (none_among y m.known e w)
 
--- what became of a log where one more was noted, or none
-pub memo_noting : (v : View) (m n : Memory) (r : Result ℕ Error) (x : stamp.Stamp) → OnOk r (n.log ≡ m.log ++ x ∷ [])
-    → OnErr r (n.log ≡ m.log) → n.stamps ≡ m.stamps → n.known ≡ m.known → n.text ≡ m.text → ∥ IsMemo v m ∥₁
-    → ∥ IsMemo v n ∥₁
-memo_noting v m n (Ok s) x l e st f t h = memo_noted v m n (x ∷ []) l st f t h
-memo_noting v m n (Err s) x l e st f t h = memo_for v m n e st f (inl t) h
+-- what became of a memo where a component got a new stamp, or none
+pub memo_noting : (v : View) (m n : Memory) (r : Result (Unit {0}) Error) (e : made.Entry)
+    → slice_get v.entries (length m.stamps) ≡ Some e
+    → OnOk r (n.log ≡ m.log ++ record {
+      before = stamp_at (length m.stamps) m.stamps;
+      numbered = e.numbered;
+      id = e.id;
+    } ∷ [])
+    → OnOk r (n.stamps ≡ m.stamps ++ (length m.log + 1) ∷ [])
+    → OnErr r (n.log ≡ m.log) → OnErr r (n.stamps ≡ m.stamps) → n.known ≡ m.known → n.text ≡ m.text
+    → ∥ IsMemo v m ∥₁ → ∥ IsMemo v n ∥₁
+memo_noting v m n (Ok s) e w l st k j f t h =
+    memo_stamped v longer n (length m.log + 1) e w (omega arith) told l st f t
+    (memo_noted v m longer (x ∷ []) refl refl refl refl h)
+  where
+    x : stamp.Stamp
+    x = record { before = stamp_at (length m.stamps) m.stamps; numbered = e.numbered; id = e.id }
 
-pub noted : (log longer : List stamp.Stamp) (x y : stamp.Stamp) (s : ℕ) → longer ≡ log ++ x ∷ [] → s ≡ length log + 1
-    → x ≡ y → slice_get longer (s - 1) ≡ Some y
-noted log longer x y s l e d =
-    let i : s - 1 ≡ length log = omega (arith, e) in
-    ap (λ k. slice_get longer k) i ∙ (ap (λ lo. slice_get lo (length log)) l ∙ (get_end log x ∙ ap Some d))
+    longer : Memory
+    longer = record { log = m.log ++ x ∷ []; stamps = m.stamps; known = m.known; text = m.text }
+
+    told : slice_get (m.log ++ x ∷ []) (length m.log + 1 - 1) ≡ Some x
+    told =
+        let i : length m.log + 1 - 1 ≡ length m.log = omega arith in
+        ap (λ k. slice_get (m.log ++ x ∷ []) k) i ∙ get_end m.log x
+memo_noting v m n (Err s) e w l st k j f t h = memo_for v m n k j f (inl t) h
+
+-- what became of a memo where a component came with its stamp, or without one
+pub memo_taking : (a b : View) (m n : Memory) (r : Result (Unit {0}) Error) (s : ℕ) (e : made.Entry) → Grown a b
+    → b.entries ≡ a.entries ++ e ∷ [] → length m.stamps ≡ length a.entries → 0 < s
+    → slice_get m.log (s - 1) ≡ Some (record {
+      before = stamp_at (length a.entries) m.stamps;
+      numbered = e.numbered;
+      id = e.id;
+    })
+    → n.log ≡ m.log → OnOk r (n.stamps ≡ m.stamps ++ s ∷ []) → OnErr r (n.stamps ≡ m.stamps) → n.known ≡ m.known
+    → n.text ≡ m.text → ∥ IsMemo a m ∥₁ → ∥ IsMemo b n ∥₁
+memo_taking a b m n (Ok u) s e g t c p i l st k f x h =
+    memo_stamped b m n s e next p (subst (λ j. slice_get m.log (s - 1) ≡ Some (made_of j)) (sym c) i) l st f x
+    (memo_grown a b m g h)
+  where
+    made_of : ℕ → stamp.Stamp
+    made_of j = record { before = stamp_at j m.stamps; numbered = e.numbered; id = e.id }
+
+    next : slice_get b.entries (length m.stamps) ≡ Some e
+    next = ap (slice_get b.entries) c ∙ (ap (λ es. slice_get es (length a.entries)) t ∙ get_end a.entries e)
+memo_taking a b m n (Err u) s e g t c p i l st k f x h = memo_for b m n l k f (inl x) (memo_grown a b m g h)
 
 -- ---- one more that was found
 among_last : {A : Type 0} (x y : A) (xs : List A) (k : ℕ) → slice_get (xs ++ x ∷ []) k ≡ Some y
@@ -223,22 +250,24 @@ memo_put v m n x l st t f o h = ∥∥₁_map₂ o h (λ p i. record {
 
 pub part_kept : (a v : View) (m : Memory) (k : mark.Mark) (text : Text) (key : of_key.Key) (levels : ℕ)
     (p : part.Part) (behind : ℕ)
-    → ∥ IsMemo v m ∥₁ → IsMark a k → Grown a v
+    → ∥ IsMemo v m ∥₁ → length m.stamps ≡ length v.entries → IsMark a k → Grown a v
     → ReadsRow (row_of key.row) levels key.conversion text key.at (Ok p) a v
     → m.text ≡ text.bytes.now → key.before ≡ stamp_at k.entries m.stamps
     → behind ≡ stamp_at (length v.entries) m.stamps
     → ∥ IsKnown m.text m.log v (record { key = key; levels = levels; outcome = of_outcome.Found p behind }) ∥₁
 unfolding table
-part_kept a v m k text key levels p behind h i g r t b d = ∥∥₁_map h (λ w. record {
+part_kept a v m k text key levels p behind h c i g r t b d = ∥∥₁_map h (λ w. record {
   before = reverse a.entries;
   chain_before =
       subst (λ s. IsChain m.log s (reverse a.entries)) (sym b)
-      (chain_at m.log m.stamps v.entries a.entries k.entries w.stamped i.entries g.entries);
+      (chain_at m.log m.stamps v.entries a.entries k.entries w.stamped i.entries
+      (omega (arith, c, grown_length a.entries v.entries g.entries)) g.entries);
   told = (
     reverse v.entries,
     (
       subst (λ s. IsChain m.log s (reverse v.entries)) (sym d)
-          (chain_at m.log m.stamps v.entries v.entries (length v.entries) w.stamped refl (take_all v.entries)),
+          (chain_at m.log m.stamps v.entries v.entries (length v.entries) w.stamped refl (omega (arith, c))
+          (take_all v.entries)),
       λ l le F f.
           found_with_more levels l (row_of key.row) key.conversion _ _ _ le (
           subst (λ tx. cread levels (row_of key.row) key.conversion
@@ -296,16 +325,17 @@ refusal_freed a v m text key levels e g u r t b w = ∣ record {
 } ∣₁
 
 pub refusal_bound : (a v : View) (m : Memory) (k : mark.Mark) (text : Text) (key : of_key.Key) (levels : ℕ) (e : Error)
-    → ∥ IsMemo v m ∥₁ → IsMark a k → Grown a v → ends (kind e) ≡ false
+    → ∥ IsMemo v m ∥₁ → length m.stamps ≡ length v.entries → IsMark a k → Grown a v → ends (kind e) ≡ false
     → ReadsRow (row_of key.row) levels key.conversion text key.at (Err e) a v
     → m.text ≡ text.bytes.now → key.before ≡ stamp_at k.entries m.stamps
     → ∥ IsKnown m.text m.log v (record { key = key; levels = levels; outcome = of_outcome.Refused e }) ∥₁
 unfolding table
-refusal_bound a v m k text key levels e h i g u r t b = ∥∥₁_map h (λ x. record {
+refusal_bound a v m k text key levels e h c i g u r t b = ∥∥₁_map h (λ x. record {
   before = reverse a.entries;
   chain_before =
       subst (λ s. IsChain m.log s (reverse a.entries)) (sym b)
-      (chain_at m.log m.stamps v.entries a.entries k.entries x.stamped i.entries g.entries);
+      (chain_at m.log m.stamps v.entries a.entries k.entries x.stamped i.entries
+      (omega (arith, c, grown_length a.entries v.entries g.entries)) g.entries);
   told = λ l le F f s q.
       subst (λ tx. cread l (row_of key.row) key.conversion (here (spot_in tx key.at) s) [] ≡ Refused (kind e)) (sym t)
       (refused_alike levels l (row_of key.row) key.conversion (spot_in text.bytes.now key.at) (table F a) s
@@ -318,28 +348,30 @@ refusal_bound a v m k text key levels e h i g u r t b = ∥∥₁_map h (λ x. r
 -- ---- what is known is what would be read
 -- the components before it are these
 before_is : (a : View) (m : Memory) (x : known.Known) (s : ℕ) (es : List made.Entry) → IsMemo a m
-    → s ≡ stamp_at (length a.entries) m.stamps → IsChain m.log s es → es ≡ reverse a.entries
-before_is a m x s es i e h =
+    → length m.stamps ≡ length a.entries → s ≡ stamp_at (length a.entries) m.stamps → IsChain m.log s es → es ≡ reverse a.entries
+before_is a m x s es i c e h =
     chain_same m.log s es (reverse a.entries) h
     (subst (λ k. IsChain m.log k (reverse a.entries)) (sym e)
-    (chain_at m.log m.stamps a.entries a.entries (length a.entries) i.stamped refl (take_all a.entries)))
+    (chain_at m.log m.stamps a.entries a.entries (length a.entries) i.stamped refl (omega (arith, c))
+    (take_all a.entries)))
 
 found_reads : (a b : View) (m n : Memory) (text : List ℕ) (key : of_key.Key) (levels : ℕ) (x : known.Known)
     (p : part.Part) (end : ℕ)
-    → IsMemo a m → IsMemo b n → n.log ≡ m.log → m.text ≡ text → key.before ≡ stamp_at (length a.entries) m.stamps
+    → IsMemo a m → IsMemo b n → length m.stamps ≡ length a.entries → length n.stamps ≡ length b.entries
+    → n.log ≡ m.log → m.text ≡ text → key.before ≡ stamp_at (length a.entries) m.stamps
     → IsAmong x m.known → x.key ≡ key → x.levels ≤ levels → x.outcome ≡ of_outcome.Found p end → Grown a b
     → end ≡ stamp_at (length b.entries) n.stamps → (F : ℕ → Core) → Holds F b
     → cread levels (row_of key.row) key.conversion (here (spot_in text key.at) (table F a)) []
     ≡ Found (F p.id) (here (spot_in text p.end) (table F b))
 unfolding table
-found_reads a b m n text key levels x p end ia ib l t kb w e le o g d F f =
+found_reads a b m n text key levels x p end ia ib ca cb l t kb w e le o g d F f =
     let k : IsKnown m.text m.log a x = ia.known x w in
     let told : Tells m.text m.log a x k.before (of_outcome.Found p end) =
     subst (Tells m.text m.log a x k.before) o k.told in
     let before : k.before ≡ reverse a.entries =
-    before_is a m x x.key.before k.before ia (ap (λ q. q.before) e ∙ kb) k.chain_before in
+    before_is a m x x.key.before k.before ia ca (ap (λ q. q.before) e ∙ kb) k.chain_before in
     let behind : told.0 ≡ reverse b.entries =
-    before_is b n x end told.0 ib d (subst (λ lo. IsChain lo end told.0) (sym l) told.1.0) in
+    before_is b n x end told.0 ib cb d (subst (λ lo. IsChain lo end told.0) (sym l) told.1.0) in
     subst (λ q. cread levels (row_of q.row) q.conversion (here (spot_in text q.at) (map (entry F) a.entries)) []
     ≡ Found (F p.id) (here (spot_in text p.end) (map (entry F) b.entries))) e
     (subst (λ tx. cread levels (row_of x.key.row) x.key.conversion (here (spot_in tx x.key.at) (map
@@ -356,15 +388,16 @@ found_reads a b m n text key levels x p end ia ib l t kb w e le o g d F f =
 
 pub recalls : (a b : View) (m n : Memory) (text : List ℕ) (key : of_key.Key) (levels : ℕ) (x : known.Known)
     (p : part.Part) (end : ℕ)
-    → ∥ IsMemo a m ∥₁ → ∥ IsMemo b n ∥₁ → n.log ≡ m.log → m.text ≡ text
+    → ∥ IsMemo a m ∥₁ → ∥ IsMemo b n ∥₁ → length m.stamps ≡ length a.entries → length n.stamps ≡ length b.entries
+    → n.log ≡ m.log → m.text ≡ text
     → key.before ≡ stamp_at (length a.entries) m.stamps
     → IsAmong x m.known → x.key ≡ key → x.levels ≤ levels → x.outcome ≡ of_outcome.Found p end → Grown a b
     → end ≡ stamp_at (length b.entries) n.stamps → (F : ℕ → Core) → Holds F b
     → cread levels (row_of key.row) key.conversion (here (spot_in text key.at) (table F a)) []
     ≡ Found (F p.id) (here (spot_in text p.end) (table F b))
-recalls a b m n text key levels x p end ha hb l t kb w e le o g d F f =
+recalls a b m n text key levels x p end ha hb ca cb l t kb w e le o g d F f =
     ∥∥₁_elim ha (reply_set _ _) (λ ia. ∥∥₁_elim hb (reply_set _ _) (λ ib.
-    found_reads a b m n text key levels x p end ia ib l t kb w e le o g d F f))
+    found_reads a b m n text key levels x p end ia ib ca cb l t kb w e le o g d F f))
 
 -- a refusal, where these components agree with those before it
 refusal_reads : (a : View) (m : Memory) (text : List ℕ) (key : of_key.Key) (levels : ℕ) (x : known.Known)
@@ -395,17 +428,18 @@ refuses_alone a m text key levels x error h t w i e le o F f =
 
 pub refuses_alike : (a : View) (m : Memory) (text : List ℕ) (key : of_key.Key) (levels : ℕ) (x : known.Known)
     (error : Error)
-    → ∥ IsMemo a m ∥₁ → m.text ≡ text → key.before ≡ stamp_at (length a.entries) m.stamps
+    → ∥ IsMemo a m ∥₁ → length m.stamps ≡ length a.entries → m.text ≡ text
+    → key.before ≡ stamp_at (length a.entries) m.stamps
     → IsAmong x m.known → x.key ≡ key → x.levels ≤ levels → x.outcome ≡ of_outcome.Refused error
     → (F : ℕ → Core) → Holds F a
     → cread levels (row_of key.row) key.conversion (here (spot_in text key.at) (table F a)) [] ≡ Refused (kind error)
 unfolding table
-refuses_alike a m text key levels x error h t kb i e le o F f =
+refuses_alike a m text key levels x error h c t kb i e le o F f =
     ∥∥₁_elim h (reply_set _ _) (λ j.
     let k : IsKnown m.text m.log a x = j.known x i in
     let before : k.before ≡ reverse a.entries =
-    before_is a m x x.key.before k.before j (ap (λ q. q.before) e ∙ kb) k.chain_before in
+    before_is a m x x.key.before k.before j c (ap (λ q. q.before) e ∙ kb) k.chain_before in
     refusal_reads a m text key levels x error k t e le o F f
     (inr (ap (λ es. outline (map (entry F) es)) (ap reverse before ∙ reverse-reverse a.entries))))
 
-pub ruleset memos = (memo_none, memo_pushed, memo_kept)
+pub ruleset memos = (memo_none, memo_grown, memo_kept)

@@ -6,7 +6,7 @@ use Rattle.std.proofs.lemmas.List.{reverse-append}
 use Rattle.demangle_cells.specs.Memo.{IsChain, stamp_at, Stamped}
 use Rattle.demangle_cells.specs.declared.entry.Entry as made
 use Rattle.demangle_cells.specs.declared.asked.Stamp as stamp
-use Rattle.demangle_cells.proofs.Lists.{take_all, take_before, length_last}
+use Rattle.demangle_cells.proofs.Lists.{length_last}
 
 -- ---- lists
 pub get_on : {A : Type 0} (xs ys : List A) (i : ℕ) (x : A) → slice_get xs i ≡ Some x → slice_get (xs ++ ys) i ≡ Some x
@@ -38,16 +38,6 @@ take_taken zero n xs h = refl
 take_taken (suc k) zero xs h = absurd (omega arith)
 take_taken (suc k) (suc n) [] h = refl
 take_taken (suc k) (suc n) (x ∷ xs) h = ap (λ l. x ∷ l) (take_taken k n xs (omega arith))
-
-pub length_taken : {A B : Type 0} (n : ℕ) (xs : List A) (ys : List B) → length xs ≡ length ys
-    → length (take n xs) ≡ length (take n ys)
-length_taken zero xs ys h = refl
-length_taken (suc n) [] [] h = refl
-length_taken (suc n) [] (y ∷ ys) h = absurd (omega (arith, h))
-length_taken (suc n) (x ∷ xs) [] h = absurd (omega (arith, h))
-length_taken (suc n) (x ∷ xs) (y ∷ ys) h =
-    let r : length (take n xs) ≡ length (take n ys) = length_taken n xs ys (omega (arith, h)) in
-    omega (arith, r)
 
 abbrev option_or : {A : Type 0} → A → Option A → A
 option_or x None = x
@@ -101,11 +91,11 @@ chain_same log s (e ∷ es) (d ∷ ds) h k =
     ap (λ x. x ∷ es) i ∙ ap (λ l. d ∷ l) r
 
 -- ---- the stamps of components
-pub stamped_none : (log : List stamp.Stamp) (stamps : List ℕ) (entries : List made.Entry) → stamps ≡ [] → entries ≡ []
+pub stamped_none : (log : List stamp.Stamp) (stamps : List ℕ) (entries : List made.Entry) → stamps ≡ []
     → Stamped log stamps entries
-stamped_none log stamps entries s e = record {
-  all = ap length s ∙ sym (ap length e);
-  each = λ k h. first k (omega (arith, h, ap length e));
+stamped_none log stamps entries s = record {
+  few = omega (arith, ap length s);
+  each = λ k h. first k (omega (arith, h, ap length s));
 }
   where
     first : (k : ℕ) → k ≤ 0 → IsChain log (stamp_at k stamps) (reverse (take k entries))
@@ -116,7 +106,7 @@ pub stamped_on : (log more : List stamp.Stamp) (stamps : List ℕ) (entries : Li
     → Stamped log stamps entries
     → Stamped (log ++ more) stamps entries
 stamped_on log more stamps entries h = record {
-  all = h.all;
+  few = h.few;
   each = λ k l. chain_on log more _ _ (h.each k l);
 }
 
@@ -134,75 +124,89 @@ taken_less zero xs = omega arith
 taken_less (suc n) [] = omega arith
 taken_less (suc n) (x ∷ xs) = let r = taken_less n xs in omega arith
 
+length_taken : {A B : Type 0} (n : ℕ) (xs : List A) (ys : List B) → length xs ≤ length ys
+    → length (take n xs) ≤ length (take n ys)
+length_taken zero xs ys h = omega arith
+length_taken (suc n) [] ys h = omega arith
+length_taken (suc n) (x ∷ xs) [] h = absurd (omega (arith, h))
+length_taken (suc n) (x ∷ xs) (y ∷ ys) h =
+    let r : length (take n xs) ≤ length (take n ys) = length_taken n xs ys (omega (arith, h)) in
+    omega (arith, r)
+
 pub stamped_cut : (log : List stamp.Stamp) (stamps : List ℕ) (entries : List made.Entry) (n : ℕ)
     → Stamped log stamps entries → Stamped log (take n stamps) (take n entries)
 stamped_cut log stamps entries n h = record {
-  all = length_taken n stamps entries h.all;
+  few = length_taken n stamps entries h.few;
   each = λ k l.
-      let a : k ≤ n = omega (arith, l, taken_le n entries) in
-      let b : k ≤ length entries = omega (arith, l, taken_less n entries) in
+      let a : k ≤ n = omega (arith, l, taken_le n stamps) in
+      let b : k ≤ length stamps = omega (arith, l, taken_less n stamps) in
       subst (λ s. IsChain log s (reverse (take k (take n entries)))) (sym (stamp_taken n k stamps a))
       (subst (λ es. IsChain log (stamp_at k stamps) (reverse es)) (sym (take_taken k n entries a)) (h.each k b));
+}
+
+pub grown_length : {A : Type 0} (xs more : List A) → take (length xs) more ≡ xs → length xs ≤ length more
+grown_length xs more e = subst (λ ys. length ys ≤ length more) e (taken_less (length xs) more)
+
+-- more components, which have no stamps yet
+pub stamped_grown : (log : List stamp.Stamp) (stamps : List ℕ) (entries more : List made.Entry)
+    → Stamped log stamps entries → take (length entries) more ≡ entries → Stamped log stamps more
+stamped_grown log stamps entries more h e = record {
+  few = omega (arith, h.few, grown_length entries more e);
+  each = λ k l.
+      subst (λ es. IsChain log (stamp_at k stamps) (reverse es))
+      (sym (ap (take k) e) ∙ take_taken k (length entries) more (omega (arith, l, h.few))) (h.each k l);
 }
 
 stamp_front : (k : ℕ) (ts us : List ℕ) → k ≤ length ts → stamp_at k (ts ++ us) ≡ stamp_at k ts
 stamp_front zero ts us h = refl
 stamp_front (suc k) ts us h = index_on ts us k (omega arith)
 
--- one component more
+inside : {A : Type 0} (xs : List A) (i : ℕ) (x : A) → slice_get xs i ≡ Some x → i < length xs
+inside [] i x h = absurd (grind (arith, h))
+inside (y ∷ xs) zero x h = omega arith
+inside (y ∷ xs) (suc i) x h = let r = inside xs i x h in omega (arith, r)
+
+take_next : {A : Type 0} (xs : List A) (i : ℕ) (x : A) → slice_get xs i ≡ Some x → take (suc i) xs ≡ take i xs ++ x ∷ []
+take_next [] i x h = absurd (grind (arith, h))
+take_next (y ∷ xs) zero x h = ap (λ z. z ∷ []) (same_some y x h)
+take_next (y ∷ xs) (suc i) x h = ap (λ l. y ∷ l) (take_next xs i x h)
+
+-- the stamp of the first component that has none
 pub stamped_more : (log : List stamp.Stamp) (stamps : List ℕ) (entries : List made.Entry) (s : ℕ) (e : made.Entry)
-    → Stamped log stamps entries → 0 < s
+    → Stamped log stamps entries → slice_get entries (length stamps) ≡ Some e → 0 < s
     → slice_get log (s - 1) ≡ Some (record {
       before = stamp_at
-          (length entries) stamps;
+          (length stamps) stamps;
       numbered = e.numbered;
       id = e.id;
     })
-    → Stamped log (stamps ++ s ∷ []) (entries ++ e ∷ [])
-stamped_more log stamps entries s e h p g = record {
-  all = length_last stamps s ∙ (ap (λ n. n + 1) h.all ∙ sym (length_last entries e));
-  each = λ k l. by k (le_or_last k (length entries) (omega (arith, l, length_last entries e)));
+    → Stamped log (stamps ++ s ∷ []) entries
+stamped_more log stamps entries s e h w p g = record {
+  few = omega (arith, length_last stamps s, inside entries (length stamps) e w);
+  each = λ k l. by k (le_or_last k (length stamps) (omega (arith, l, length_last stamps s)));
 }
   where
-    last : IsChain log s (reverse (entries ++ e ∷ []))
+    last : IsChain log s (reverse (take (suc (length stamps)) entries))
     last =
-        subst (λ es. IsChain log s es) (sym (reverse-append entries (e ∷ []))) (
-          stamp_at (length entries) stamps,
-          (
-            p,
-            g,
-            subst (λ es. IsChain log (stamp_at (length entries) stamps) (reverse es)) (take_all entries)
-                (h.each (length entries) (omega arith)),
-          ),
-        )
+        subst (λ es. IsChain log s (reverse es)) (sym (take_next entries (length stamps) e w))
+        (subst (λ es. IsChain log s es) (sym (reverse-append (take (length stamps) entries) (e ∷ [])))
+        (stamp_at (length stamps) stamps, (p, g, h.each (length stamps) (omega arith))))
 
-    by : (k : ℕ) → (k ≤ length entries) ⊎ (k ≡ suc (length entries))
-        → IsChain log (stamp_at k (stamps ++ s ∷ [])) (reverse (take k (entries ++ e ∷ [])))
+    by : (k : ℕ) → (k ≤ length stamps) ⊎ (k ≡ suc (length stamps))
+        → IsChain log (stamp_at k (stamps ++ s ∷ [])) (reverse (take k entries))
     by k (inl l) =
-        subst (λ t. IsChain log t (reverse (take k (entries ++ e ∷ [])))) (sym (stamp_front k stamps (s ∷ []) (omega
-        (arith, l, h.all))))
-        (subst (λ es. IsChain log (stamp_at k stamps) (reverse es)) (sym (take_before k entries (e ∷ []) l))
-        (h.each k l))
+        subst (λ t. IsChain log t (reverse (take k entries))) (sym (stamp_front k stamps (s ∷ []) l)) (h.each k l)
     by k (inr q) =
-        subst (λ n. IsChain log (stamp_at n (stamps ++ s ∷ [])) (reverse (take n (entries ++ e ∷ [])))) (sym q)
-        (subst (λ t. IsChain log t (reverse (take (suc (length entries)) (entries ++ e ∷ []))))
-        (sym (ap (λ n. slice_index (stamps ++ s ∷ []) n) (sym h.all) ∙ index_end stamps s))
-        (subst (λ es. IsChain log s (reverse es)) (sym all_of) last))
-      where
-        long : suc (length entries) ≡ length (entries ++ e ∷ [])
-        long = let l = length_last entries e in omega (arith, l)
+        subst (λ n. IsChain log (stamp_at n (stamps ++ s ∷ [])) (reverse (take n entries))) (sym q)
+        (subst (λ t. IsChain log t (reverse (take (suc (length stamps)) entries))) (sym (index_end stamps s)) last)
 
-        all_of : take (suc (length entries)) (entries ++ e ∷ []) ≡ entries ++ e ∷ []
-        all_of = ap (λ n. take n (entries ++ e ∷ [])) long ∙ take_all (entries ++ e ∷ [])
-
--- those of all components, and of the first of them
+-- those of the first components, where these have theirs
 pub chain_at : (log : List stamp.Stamp) (stamps : List ℕ) (entries first : List made.Entry) (n : ℕ)
-    → Stamped log stamps entries → n ≡ length first → take (length first) entries ≡ first
-    → IsChain log (stamp_at n stamps) (reverse first)
-chain_at log stamps entries first n h e f =
+    → Stamped log stamps entries → n ≡ length first → length first ≤ length stamps
+    → take (length first) entries ≡ first → IsChain log (stamp_at n stamps) (reverse first)
+chain_at log stamps entries first n h e l f =
     subst (λ k. IsChain log (stamp_at k stamps) (reverse first)) (sym e)
-    (subst (λ es. IsChain log (stamp_at (length first) stamps) (reverse es)) f
-    (h.each (length first) (subst (λ es. length es ≤ length entries) f (taken_less (length first) entries))))
+    (subst (λ es. IsChain log (stamp_at (length first) stamps) (reverse es)) f (h.each (length first) l))
 
 -- ---- the stamp of so many components, as it is looked up
 pub stamp_found : (n s : ℕ) (ts : List ℕ) → n ≢ 0 → Some s ≡ slice_get ts (n - 1) → s ≡ stamp_at n ts

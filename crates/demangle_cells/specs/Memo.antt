@@ -50,9 +50,10 @@ abbrev pub stamp_at : ℕ → List ℕ → ℕ
 stamp_at zero stamps = 0
 stamp_at (suc k) stamps = slice_index stamps k
 
+-- these are the stamps of the first components, of all or of fewer
 pub record Stamped (log : List stamp.Stamp) (stamps : List ℕ) (entries : List made.Entry) : Type 0 where
-  pub all : length stamps ≡ length entries
-  pub each : (k : ℕ) → k ≤ length entries → IsChain log (stamp_at k stamps) (reverse (take k entries))
+  pub few : length stamps ≤ length entries
+  pub each : (k : ℕ) → k ≤ length stamps → IsChain log (stamp_at k stamps) (reverse (take k entries))
 
 -- ---- what is known
 -- the place at an index of these bytes

@@ -93,36 +93,7 @@ impl Arena {
             → table F (view self.new) ≡ added (which_of numbered) (F id) (table F (view self.old))) }
         ensures refused { IfErr result (λ e. e ≡ OutOfMemory) }
     {
-        let stamp = self.memo.note(self.store.count(), numbered, id)?;
-        self.add_stamped(stamp, numbered, id)
-    }
-
-    /// One component more, of a stamp that tells it.
-    #[tactic(auto, using(crate::proofs::Memos::memos), unfolding(crate::specs::View::view))]
-    fn add_stamped(&mut self, stamp: u32, numbered: bool, id: u32) -> Result<u32>
-        requires positive { 0 < stamp }
-        requires told { slice_get (memory self.old.memo).log (stamp - 1) ≡ Some (record {
-          before = stamp_at (length (view self.old).entries) (memory self.old.memo).stamps;
-          numbered = numbered;
-          id = id;
-        }) }
-        ensures grown { Grown (view self.old) (view self.new) }
-        ensures reference { IfOk result (λ r. (F : ℕ → Core) → Holds F (view self.new)
-            → F r ≡ reference (which_of numbered) (size (which_of numbered) (table F (view self.old)))) }
-        ensures added { OnOk result ((F : ℕ → Core)
-            → table F (view self.new) ≡ added (which_of numbered) (F id) (table F (view self.old))) }
-        ensures refused { IfErr result (λ e. e ≡ OutOfMemory) }
-        ensures log { (memory self.new.memo).log ≡ (memory self.old.memo).log }
-    {
-        let count = self.memo.stamps.len();
-        self.memo.stamps.push(stamp)?;
-        match self.store.add(numbered, id) {
-            Ok(reference) => Ok(reference),
-            Err(error) => {
-                self.memo.stamps.truncate(count);
-                Err(error)
-            }
-        }
+        self.store.add(numbered, id)
     }
 
     /// How many components there are.
@@ -254,6 +225,44 @@ impl Arena {
         self.store.gathered(from, list, answer)
     }
 
+    /// Whether so many rows were entered, this one among them, that what they answer is kept.
+    #[inline(always)]
+    #[tactic(auto, using(crate::proofs::Memos::memos), unfolding(crate::specs::View::view))]
+    pub fn is_late(&mut self, text: Text<'_>) -> bool
+        ensures { view self.new ≡ view self.old }
+    {
+        self.memo.is_late(text.bytes.len())
+    }
+
+    /// The first component that has no stamp gets one; whether it did.
+    #[tactic(auto, using(crate::proofs::Memos::memos), unfolding(crate::specs::View::view))]
+    fn stamp_next(&mut self) -> bool
+        ensures same { view self.new ≡ view self.old }
+        ensures text { (memory self.new.memo).text ≡ (memory self.old.memo).text }
+        ensures more { result ≡ true
+            → length (memory self.new.memo).stamps ≡ length (memory self.old.memo).stamps + 1 }
+    {
+        match self.store.entry(self.memo.stamps.len()) {
+            None => false,
+            Some(entry) => self.memo.note(entry).is_ok(),
+        }
+    }
+
+    /// Each component that has no stamp gets one; whether all have theirs.
+    #[tactic(auto, using(crate::proofs::Memos::memos), unfolding(crate::specs::View::view))]
+    fn stamp_all(&mut self) -> bool
+        ensures same { view self.new ≡ view self.old }
+        ensures text { (memory self.new.memo).text ≡ (memory self.old.memo).text }
+        ensures whole { result ≡ true → length (memory self.new.memo).stamps ≡ length (view self.new).entries }
+    {
+        while self.memo.stamps.len() < self.store.count() {
+            if !self.stamp_next() {
+                return false;
+            }
+        }
+        self.memo.stamps.len() == self.store.count()
+    }
+
     /// The stamp of the components.
     #[tactic(auto, unfolding(crate::specs::View::view))]
     fn stamp(&self) -> u32
@@ -262,18 +271,40 @@ impl Arena {
         self.memo.stamp(self.store.count())
     }
 
+    /// Adds a component of a stamp that tells it; whether it did.
+    #[tactic(auto, using(crate::proofs::Memos::memos), unfolding(crate::specs::View::view))]
+    fn add_stamped(&mut self, stamp: u32, numbered: bool, id: u32) -> bool
+        requires whole { length (memory self.old.memo).stamps ≡ length (view self.old).entries }
+        requires positive { 0 < stamp }
+        requires told { slice_get (memory self.old.memo).log (stamp - 1) ≡ Some (record {
+          before = stamp_at (length (view self.old).entries) (memory self.old.memo).stamps;
+          numbered = numbered;
+          id = id;
+        }) }
+        ensures grown { Grown (view self.old) (view self.new) }
+        ensures log { (memory self.new.memo).log ≡ (memory self.old.memo).log }
+        ensures whole { result ≡ true → length (memory self.new.memo).stamps ≡ length (view self.new).entries }
+    {
+        match self.store.add(numbered, id) {
+            Err(_) => false,
+            Ok(_) => self.memo.stamps.push(stamp).is_ok(),
+        }
+    }
+
     /// Adds a component once more by its stamp, where its log says that it came behind these.
     #[tactic(auto, using(crate::proofs::Memos::memos), unfolding(crate::specs::View::view))]
     fn put_back(&mut self, stamp: u32) -> bool
+        requires { length (memory self.old.memo).stamps ≡ length (view self.old).entries }
         ensures grown { Grown (view self.old) (view self.new) }
         ensures log { (memory self.new.memo).log ≡ (memory self.old.memo).log }
+        ensures whole { result ≡ true → length (memory self.new.memo).stamps ≡ length (view self.new).entries }
     {
         if stamp == 0 {
             return false;
         }
         match self.memo.log.get(stamp as usize - 1) {
             Some(was) if was.before == self.stamp() => {
-                self.add_stamped(stamp, was.numbered, was.id).is_ok()
+                self.add_stamped(stamp, was.numbered, was.id)
             }
             _ => false,
         }
@@ -282,8 +313,10 @@ impl Arena {
     /// Adds the components between these and those of a stamp once more; whether it did.
     #[tactic(auto, using(crate::proofs::Memos::memos), unfolding(crate::specs::View::view))]
     fn restore(&mut self, stamp: u32) -> bool
+        requires { length (memory self.old.memo).stamps ≡ length (view self.old).entries }
         ensures grown { Grown (view self.old) (view self.new) }
         ensures log { (memory self.new.memo).log ≡ (memory self.old.memo).log }
+        ensures whole { result ≡ true → length (memory self.new.memo).stamps ≡ length (view self.new).entries }
         ensures stamp { result ≡ true
             → stamp ≡ stamp_at (length (view self.new).entries) (memory self.new.memo).stamps }
     {
@@ -304,8 +337,8 @@ impl Arena {
 
     /// The answer to a row that was read before, at this place of this text, with no more levels, and with the same
     /// components, or with any where it was refused and no `S` is left; the components that came with it come once
-    /// more. None where none is kept; nothing changes then.
-    #[inline(always)]
+    /// more. None where none is kept; nothing changes then. To be asked once rows are late.
+    #[inline(never)]
     #[tactic(auto, using(crate::proofs::Memos::memos), unfolding(crate::specs::View::view))]
     pub fn recall(
         &mut self,
@@ -319,30 +352,7 @@ impl Arena {
             (λ answer. ReadsRow (row_of row) depth.levels depth.conversion text.entry at answer
             (view self.old) (view self.new)) }
     {
-        self.memo.rows = self.memo.rows.saturating_add(1);
-        if self.memo.is_late(text.bytes.len()) {
-            self.recalled(row, depth, text, at)
-        } else {
-            None
-        }
-    }
-
-    /// The same, once what rows answer is kept.
-    #[inline(never)]
-    #[tactic(auto, using(crate::proofs::Memos::memos), unfolding(crate::specs::View::view))]
-    fn recalled(
-        &mut self,
-        row: RowName,
-        depth: Depth,
-        text: Text<'_>,
-        at: u32,
-    ) -> Option<Result<Part>>
-        ensures grown { Grown (view self.old) (view self.new) }
-        ensures answer { MatchOption result (view self.new ≡ view self.old)
-            (λ answer. ReadsRow (row_of row) depth.levels depth.conversion text.entry at answer
-            (view self.old) (view self.new)) }
-    {
-        if !self.memo.is_for(text.bytes) {
+        if !self.memo.is_for(text.bytes) || !self.stamp_all() {
             return None;
         }
         if has_no_reference(text.rest(at)) {
@@ -361,6 +371,7 @@ impl Arena {
         at: u32,
     ) -> Option<Result<Part>>
         requires bytes { (memory self.old.memo).text ≡ text.bytes.now }
+        requires whole { length (memory self.old.memo).stamps ≡ length (view self.old).entries }
         requires alone { AllOf (λ b. not (b == 83)) (drop at text.bytes.now) }
         ensures grown { Grown (view self.old) (view self.new) }
         ensures answer { MatchOption result (view self.new ≡ view self.old)
@@ -389,6 +400,7 @@ impl Arena {
         at: u32,
     ) -> Option<Result<Part>>
         requires bytes { (memory self.old.memo).text ≡ text.bytes.now }
+        requires whole { length (memory self.old.memo).stamps ≡ length (view self.old).entries }
         ensures grown { Grown (view self.old) (view self.new) }
         ensures answer { MatchOption result (view self.new ≡ view self.old)
             (λ answer. ReadsRow (row_of row) depth.levels depth.conversion text.entry at answer
@@ -413,8 +425,9 @@ impl Arena {
         }
     }
 
-    /// Keeps the answer to a row that was read, with the mark of the components before it.
-    #[inline(always)]
+    /// Keeps the answer to a row that was read, with the mark of the components before it. To be told once rows are
+    /// late.
+    #[inline(never)]
     #[tactic(auto, using(crate::proofs::Memos::memos), unfolding(crate::specs::View::view))]
     pub fn remember(
         &mut self,
@@ -429,7 +442,7 @@ impl Arena {
             × (ReadsRow (row_of row) depth.levels depth.conversion text at answer.now before (view self.old))) }
         ensures { view self.new ≡ view self.old }
     {
-        if self.memo.is_late(text.bytes.len()) {
+        if self.memo.is_for(text.bytes) && self.stamp_all() {
             match answer {
                 Ok(part) => self.keep_part(row, mark, depth, text, at, *part),
                 Err(error) => self.keep_refusal(row, mark, depth, text, at, *error),
@@ -438,7 +451,6 @@ impl Arena {
     }
 
     /// Keeps what was found.
-    #[inline(never)]
     #[tactic(auto, using(crate::proofs::Memos::memos), unfolding(crate::specs::View::view))]
     fn keep_part(
         &mut self,
@@ -449,13 +461,12 @@ impl Arena {
         at: u32,
         part: Part,
     )
-        requires { (before : View) × ((IsMark before mark) × (Grown before (view self.old))
+        requires bytes { (memory self.old.memo).text ≡ text.bytes.now }
+        requires whole { length (memory self.old.memo).stamps ≡ length (view self.old).entries }
+        requires read { (before : View) × ((IsMark before mark) × (Grown before (view self.old))
             × (ReadsRow (row_of row) depth.levels depth.conversion text at (Ok part) before (view self.old))) }
         ensures { view self.new ≡ view self.old }
     {
-        if !self.memo.is_for(text.bytes) {
-            return;
-        }
         let key = Key {
             row,
             at,
@@ -471,7 +482,6 @@ impl Arena {
     }
 
     /// Keeps why nothing was found, unless no level was left or no memory.
-    #[inline(never)]
     #[tactic(auto, using(crate::proofs::Memos::memos), unfolding(crate::specs::View::view))]
     fn keep_refusal(
         &mut self,
@@ -482,11 +492,13 @@ impl Arena {
         at: u32,
         error: Error,
     )
-        requires { (before : View) × ((IsMark before mark) × (Grown before (view self.old))
+        requires bytes { (memory self.old.memo).text ≡ text.bytes.now }
+        requires whole { length (memory self.old.memo).stamps ≡ length (view self.old).entries }
+        requires read { (before : View) × ((IsMark before mark) × (Grown before (view self.old))
             × (ReadsRow (row_of row) depth.levels depth.conversion text at (Err error) before (view self.old))) }
         ensures { view self.new ≡ view self.old }
     {
-        if !is_of_bytes(error) || !self.memo.is_for(text.bytes) {
+        if !is_of_bytes(error) {
             return;
         }
         if has_no_reference(text.rest(at)) {
@@ -531,6 +543,7 @@ impl Arena {
         error: Error,
     )
         requires bytes { (memory self.old.memo).text ≡ text.bytes.now }
+        requires whole { length (memory self.old.memo).stamps ≡ length (view self.old).entries }
         requires unread { ends (kind error) ≡ false }
         requires read { (before : View) × ((IsMark before mark) × (Grown before (view self.old))
             × (ReadsRow (row_of row) depth.levels depth.conversion text at (Err error) before (view self.old))) }

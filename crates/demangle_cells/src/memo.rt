@@ -4,12 +4,13 @@ ghost use Rattle.std.specs.Prelude.{◌≡◌, ◌+◌, ◌-◌, ◌<◌, ◌≤
 ghost use Rattle.std.specs.Prelude.{◌⊎◌, IfErr, IfOk, IfSome, OnErr, OnOk};
 
 use crate::asked::{Key, Known, Outcome, Stamp};
+use crate::entry::Entry;
 use crate::room::Room;
 use demangle_text::{Error, Result};
 use std::alloc::Global;
 
-/// The stamps of the components, in the order in which they came, with the log of all components that there ever were
-/// since the arena was cleared; and what is known of rows of a text. For each `Known` there is in `links` the one
+/// The stamps of the first components, in the order in which they came, with the log of all that ever got one since the
+/// arena was cleared: they get them late, once what rows answer is kept. And what is known of rows of a text. For each `Known` there is in `links` the one
 /// before it that has the same place in `heads`, which holds the last of them. Both count from 1 on.
 #[derive(Drop)]
 pub(crate) struct Memo {
@@ -88,38 +89,47 @@ impl Memo {
         }
     }
 
-    /// Whether a row is one of so many that what they answer is kept.
+    /// Counts a row that is entered. Whether it is one of so many that what they answer is kept.
     #[inline(always)]
-    pub fn is_late(&self, length: usize) -> bool {
+    pub fn is_late(&mut self, length: usize) -> bool
+        ensures { memory self.new ≡ memory self.old }
+    {
+        self.rows = self.rows.saturating_add(1);
         self.rows / PATIENCE > length
     }
 
-    /// A new stamp, for a component behind so many others.
+    /// A new stamp for the first component that has none, which stands behind those that have theirs.
     #[tactic(auto, using(crate::proofs::Stamps::stamps))]
-    pub fn note(&mut self, count: usize, numbered: bool, id: u32) -> Result<u32>
+    pub fn note(&mut self, entry: Entry) -> Result<()>
         ensures log { OnOk result ((memory self.new).log ≡ (memory self.old).log ++ record {
-          before = stamp_at count (memory self.old).stamps;
-          numbered = numbered;
-          id = id;
+          before = stamp_at (length (memory self.old).stamps) (memory self.old).stamps;
+          numbered = entry.numbered;
+          id = entry.id;
         } ∷ []) }
-        ensures stamp { IfOk result (λ s. s ≡ length (memory self.old).log + 1) }
-        ensures same { OnErr result ((memory self.new).log ≡ (memory self.old).log) }
-        ensures stamps { (memory self.new).stamps ≡ (memory self.old).stamps }
+        ensures stamps { OnOk result ((memory self.new).stamps
+            ≡ (memory self.old).stamps ++ (length (memory self.old).log + 1) ∷ []) }
+        ensures same_log { OnErr result ((memory self.new).log ≡ (memory self.old).log) }
+        ensures same_stamps { OnErr result ((memory self.new).stamps ≡ (memory self.old).stamps) }
         ensures known { (memory self.new).known ≡ (memory self.old).known }
         ensures text { (memory self.new).text ≡ (memory self.old).text }
-        ensures refused { IfErr result (λ e. e ≡ OutOfMemory) }
     {
-        let before = self.stamp(count);
+        let before = self.stamp(self.stamps.len());
         let number = self.log.len();
         if number >= u32::MAX as usize {
             return Err(Error::OutOfMemory);
         }
         self.log.push(Stamp {
             before,
-            numbered,
-            id,
+            numbered: entry.numbered,
+            id: entry.id,
         })?;
-        Ok(number as u32 + 1)
+        match self.stamps.push(number as u32 + 1) {
+            Ok(()) => Ok(()),
+            Err(error) => {
+                self.log.truncate(number);
+                Err(error)
+            }
+        }
     }
 
     /// Begins with these bytes where nothing is known yet; whether it is a memo of these bytes.

@@ -1,7 +1,7 @@
 //! The trees of a name: cells, and what of the name is kept beside them.
 
 ghost use Rattle.std.specs.Prelude.{◌≡◌, ◌≤◌, ◌+◌, ◌^◌, ◌<◌, [], ◌∷◌, true, false, length, take, drop, ℕ, IfOk, IfErr};
-ghost use Rattle.std.specs.Prelude.{OnErr, OnOk, IfSome};
+ghost use Rattle.std.specs.Prelude.{OnErr, OnOk, IfSome, slice_get};
 ghost use Rattle.demangle_cells.specs.Fixed.{first_cell, first_reference};
 ghost use Rattle.demangle_cells.specs.Behind.{all_behind};
 ghost use Rattle.demangle_cells.specs.Entries.{ids_of};
@@ -302,6 +302,14 @@ impl Store {
         ensures { result.now ≡ (stored self.now).entries }
     {
         self.entries.items()
+    }
+
+    /// The component of this number, in that order; none exactly where there is none.
+    #[tactic(auto, unfolding(crate::specs::Stored::stored))]
+    pub fn entry(&self, number: usize) -> Option<Entry>
+        ensures { result ≡ slice_get (stored self.now).entries number }
+    {
+        self.entries.get(number)
     }
 
     /// Cuts the components back to as many as there were.

@@ -1,30 +1,16 @@
-use Rattle.std.proofs.Common.{◌≡◌, refl, ap, ◌∙◌, ◌∷◌, ◌++◌, [], take, inl}
-use Rattle.demangle_cells.specs.Held.{held}
+use Rattle.std.proofs.Common.{refl}
 use Rattle.demangle_cells.specs.Memo.{memory}
 use Rattle.demangle_cells.specs.Stored.{stored}
 use Rattle.demangle_cells.specs.View.{view}
-use Rattle.demangle_cells.proofs.Lists.{take_front}
-use Rattle.demangle_cells.proofs.Memos.{memo_added, memo_for, memo_pushed}
+use Rattle.demangle_cells.proofs.Memos.{memo_taking}
 use Rattle.demangle_cells.proofs.arena.Arena.add_stamped.Goals as goal
 
-pub invariant_of-self-in-Ok-1 : goal.invariant_of-self-in-Ok-1
+pub invariant_of-self-in-Ok : goal.invariant_of-self-in-Ok
 unfolding view
-invariant_of-self-in-Ok-1 c = record {
+invariant_of-self-in-Ok c = record {
   kept =
-      memo_added (stored c.args.self.now.store) _ (memory c.args.self.now.memo) _ c.args.stamp
-      (record { numbered = c.args.numbered; id = c.args.id }) c.add.ensures.grown c.in-Ok.ensures.entries
-      c.requires.positive c.requires.told refl c.in_ok-push.ensures.items refl refl c.args.self.now.kept;
+      memo_taking (stored c.args.self.now.store) (stored c.add.new.self) (memory c.args.self.now.memo) _ c.push.result
+      c.args.stamp (record { numbered = c.args.numbered; id = c.args.id }) c.add.ensures.grown c.in-Ok.ensures.entries
+      c.requires.whole c.requires.positive c.requires.told refl c.push.ensures.items c.push.ensures.same refl refl
+      c.args.self.now.kept;
 }
-
-pub invariant_of-self-in-Err : goal.invariant_of-self-in-Err
-invariant_of-self-in-Err c =
-    let old = held c.args.self.now.memo.stamps in
-    let cut : held c.truncate.new.self ≡ old =
-    c.truncate.ensures ∙ (ap (take c.len-count.result) c.in_ok-push.ensures.items ∙
-    (ap (λ n. take n (old ++ c.args.stamp ∷ [])) c.len-count.ensures ∙ take_front old (c.args.stamp ∷ []))) in
-    record {
-      kept =
-          memo_for _ (memory c.args.self.now.memo) _ refl cut refl (inl refl)
-          (memo_pushed (stored c.args.self.now.store) _ _ c.add.ensures.grown c.in-Err.ensures.same
-          c.args.self.now.kept);
-    }

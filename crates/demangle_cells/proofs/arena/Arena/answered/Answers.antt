@@ -11,7 +11,8 @@ returns-in-Refused-clause-answer c =
     λ F f. inr (
       refuses_alike (stored c.args.self.now.store) (memory c.args.self.now.memo) c.args.text.bytes.now
           (record { row = c.args.row; at = c.args.at; conversion = c.args.depth.conversion; before = c.stamp.result })
-          c.args.depth.levels c.in_ok-known.known c.in-Refused.error c.args.self.now.kept c.requires.bytes c.stamp.ensures
+          c.args.depth.levels c.in_ok-known.known c.in-Refused.error c.args.self.now.kept c.requires.whole
+          c.requires.bytes c.stamp.ensures
           c.in_ok-known.ensures.among c.in_ok-known.ensures.key c.in_ok-known.ensures.levels c.in-Refused.is F f,
       refl,
     )
@@ -23,6 +24,7 @@ returns-then-restore-clause-answer c =
     (memory c.restore.new.self.memo) c.args.text.bytes.now
     (record { row = c.args.row; at = c.args.at; conversion = c.args.depth.conversion; before = c.stamp.result })
     c.args.depth.levels c.in_ok-known.known c.in-Found.part c.in-Found.behind c.args.self.now.kept
-    c.restore.new.self.kept c.restore.ensures.log c.requires.bytes c.stamp.ensures c.in_ok-known.ensures.among
+    c.restore.new.self.kept c.requires.whole (c.restore.ensures.whole c.if-restore.true) c.restore.ensures.log
+    c.requires.bytes c.stamp.ensures c.in_ok-known.ensures.among
     c.in_ok-known.ensures.key c.in_ok-known.ensures.levels c.in-Found.is c.restore.ensures.grown
     (c.restore.ensures.stamp c.if-restore.true)

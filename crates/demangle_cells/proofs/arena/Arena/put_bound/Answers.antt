@@ -13,7 +13,7 @@ invariant_of-self c = record {
       (refusal_bound c.requires.read.0 (stored c.args.self.now.store)
       (memory c.args.self.now.memo) c.args.mark c.args.text
       (record { row = c.args.row; at = c.args.at; conversion = c.args.depth.conversion; before = c.stamp.result })
-      c.args.depth.levels c.args.error c.args.self.now.kept c.requires.read.1.0 c.requires.read.1.1 c.requires.unread
+      c.args.depth.levels c.args.error c.args.self.now.kept c.requires.whole c.requires.read.1.0 c.requires.read.1.1 c.requires.unread
       c.requires.read.1.2 c.requires.bytes c.stamp.ensures)
       c.args.self.now.kept;
 }

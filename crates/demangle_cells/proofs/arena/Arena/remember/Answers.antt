@@ -1,7 +1,7 @@
 use Rattle.demangle_cells.specs.Memo.{memory}
 use Rattle.demangle_cells.specs.Stored.{stored}
 use Rattle.demangle_cells.proofs.Memos.{memo_for}
-use Rattle.demangle_cells.proofs.arena.Arena.recalled.Goals as goal
+use Rattle.demangle_cells.proofs.arena.Arena.remember.Goals as goal
 
 pub invariant_of-self : goal.invariant_of-self
 invariant_of-self c = record {
