@@ -90,8 +90,18 @@ fn begins_with(word: &[u8], bytes: &[u8]) -> bool
     }
 }
 
-/// Whether an identifier is one that compilers give to an anonymous namespace.
+/// Whether an identifier is one that compilers give to an anonymous namespace. Few begin with `_`.
 pub(crate) fn is_anonymous(bytes: &[u8]) -> bool
+    ensures { result ≡ is_anonymous bytes.now }
+{
+    match bytes {
+        [b'_', ..] => is_global(bytes),
+        _ => false,
+    }
+}
+
+/// The same, for identifiers that begin with `_`.
+fn is_global(bytes: &[u8]) -> bool
     ensures { result ≡ is_anonymous bytes.now }
 {
     begins_with(b"_GLOBAL_.N", bytes)

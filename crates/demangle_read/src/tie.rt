@@ -4,7 +4,11 @@ ghost use Rattle.demangle_grammar.specs.Rule.{Row};
 ghost use Rattle.demangle_cells.specs.Reads.{ReadsRow};
 ghost use Rattle.demangle_cells.specs.View.{Grown, view};
 
-use demangle_cells::{Arena, Depth, Part, RowName, Text};
+use crate::late::{
+    late_encoding, late_expression, late_mangled_name, late_name, late_template_arg,
+    late_type_handle,
+};
+use demangle_cells::{Arena, Depth, Part, Text};
 use demangle_read_below::Tied;
 use demangle_read_expressions::expression_by;
 use demangle_read_names::{encoding_by, mangled_name_by, name_by};
@@ -18,10 +22,6 @@ pub fn type_handle(arena: &mut Arena, depth: Depth, text: Text<'_>, at: u32) -> 
     ensures reads { ReadsRow Row.type_handle depth.levels depth.conversion text.entry at result
         (view arena.old) (view arena.new) }
 {
-    if let Some(answer) = arena.recall(RowName::TypeHandle, depth, text, at) {
-        return answer;
-    }
-    let mark = arena.mark();
     let below = Tied {
         most: depth,
         type_handle,
@@ -31,9 +31,11 @@ pub fn type_handle(arena: &mut Arena, depth: Depth, text: Text<'_>, at: u32) -> 
         encoding,
         mangled_name,
     };
-    let answer = type_handle_by(below, arena, depth, text, at);
-    arena.remember(RowName::TypeHandle, mark, depth, text, at, &answer);
-    answer
+    if arena.is_late(text) {
+        late_type_handle(below, arena, depth, text, at)
+    } else {
+        type_handle_by(below, arena, depth, text, at)
+    }
 }
 
 /// An expression, ABI section 5.1.6, `<expression>`.
@@ -43,10 +45,6 @@ pub fn expression(arena: &mut Arena, depth: Depth, text: Text<'_>, at: u32) -> R
     ensures reads { ReadsRow Row.expression depth.levels depth.conversion text.entry at result
         (view arena.old) (view arena.new) }
 {
-    if let Some(answer) = arena.recall(RowName::Expression, depth, text, at) {
-        return answer;
-    }
-    let mark = arena.mark();
     let below = Tied {
         most: depth,
         type_handle,
@@ -56,9 +54,11 @@ pub fn expression(arena: &mut Arena, depth: Depth, text: Text<'_>, at: u32) -> R
         encoding,
         mangled_name,
     };
-    let answer = expression_by(below, arena, depth, text, at);
-    arena.remember(RowName::Expression, mark, depth, text, at, &answer);
-    answer
+    if arena.is_late(text) {
+        late_expression(below, arena, depth, text, at)
+    } else {
+        expression_by(below, arena, depth, text, at)
+    }
 }
 
 /// A template argument, ABI section 5.1.2, `<template-arg>`.
@@ -68,10 +68,6 @@ pub fn template_arg(arena: &mut Arena, depth: Depth, text: Text<'_>, at: u32) ->
     ensures reads { ReadsRow Row.template_arg depth.levels depth.conversion text.entry at result
         (view arena.old) (view arena.new) }
 {
-    if let Some(answer) = arena.recall(RowName::TemplateArg, depth, text, at) {
-        return answer;
-    }
-    let mark = arena.mark();
     let below = Tied {
         most: depth,
         type_handle,
@@ -81,9 +77,11 @@ pub fn template_arg(arena: &mut Arena, depth: Depth, text: Text<'_>, at: u32) ->
         encoding,
         mangled_name,
     };
-    let answer = template_arg_by(below, arena, depth, text, at);
-    arena.remember(RowName::TemplateArg, mark, depth, text, at, &answer);
-    answer
+    if arena.is_late(text) {
+        late_template_arg(below, arena, depth, text, at)
+    } else {
+        template_arg_by(below, arena, depth, text, at)
+    }
 }
 
 /// A name, ABI section 5.1.2, `<name>`.
@@ -93,10 +91,6 @@ pub fn name(arena: &mut Arena, depth: Depth, text: Text<'_>, at: u32) -> Result<
     ensures reads { ReadsRow Row.name depth.levels depth.conversion text.entry at result
         (view arena.old) (view arena.new) }
 {
-    if let Some(answer) = arena.recall(RowName::Name, depth, text, at) {
-        return answer;
-    }
-    let mark = arena.mark();
     let below = Tied {
         most: depth,
         type_handle,
@@ -106,9 +100,11 @@ pub fn name(arena: &mut Arena, depth: Depth, text: Text<'_>, at: u32) -> Result<
         encoding,
         mangled_name,
     };
-    let answer = name_by(below, arena, depth, text, at);
-    arena.remember(RowName::Name, mark, depth, text, at, &answer);
-    answer
+    if arena.is_late(text) {
+        late_name(below, arena, depth, text, at)
+    } else {
+        name_by(below, arena, depth, text, at)
+    }
 }
 
 /// A function, a variable or an entity that the compiler makes, ABI section 5.1.2, `<encoding>`.
@@ -118,10 +114,6 @@ pub fn encoding(arena: &mut Arena, depth: Depth, text: Text<'_>, at: u32) -> Res
     ensures reads { ReadsRow Row.encoding depth.levels depth.conversion text.entry at result
         (view arena.old) (view arena.new) }
 {
-    if let Some(answer) = arena.recall(RowName::Encoding, depth, text, at) {
-        return answer;
-    }
-    let mark = arena.mark();
     let below = Tied {
         most: depth,
         type_handle,
@@ -131,9 +123,11 @@ pub fn encoding(arena: &mut Arena, depth: Depth, text: Text<'_>, at: u32) -> Res
         encoding,
         mangled_name,
     };
-    let answer = encoding_by(below, arena, depth, text, at);
-    arena.remember(RowName::Encoding, mark, depth, text, at, &answer);
-    answer
+    if arena.is_late(text) {
+        late_encoding(below, arena, depth, text, at)
+    } else {
+        encoding_by(below, arena, depth, text, at)
+    }
 }
 
 /// A mangled name, ABI section 5.1.2, `<mangled-name>`.
@@ -143,10 +137,6 @@ pub fn mangled_name(arena: &mut Arena, depth: Depth, text: Text<'_>, at: u32) ->
     ensures reads { ReadsRow Row.mangled_name depth.levels depth.conversion text.entry at result
         (view arena.old) (view arena.new) }
 {
-    if let Some(answer) = arena.recall(RowName::MangledName, depth, text, at) {
-        return answer;
-    }
-    let mark = arena.mark();
     let below = Tied {
         most: depth,
         type_handle,
@@ -156,7 +146,9 @@ pub fn mangled_name(arena: &mut Arena, depth: Depth, text: Text<'_>, at: u32) ->
         encoding,
         mangled_name,
     };
-    let answer = mangled_name_by(below, arena, depth, text, at);
-    arena.remember(RowName::MangledName, mark, depth, text, at, &answer);
-    answer
+    if arena.is_late(text) {
+        late_mangled_name(below, arena, depth, text, at)
+    } else {
+        mangled_name_by(below, arena, depth, text, at)
+    }
 }

@@ -1,6 +1,6 @@
 //! Bytes that are read with no row.
 
-ghost use Rattle.std.specs.Prelude.{◌≡◌, ◌+◌, ◌≤◌, ◌<◌, ◌^◌, ◌⊎◌, true, length, pos, IfOk, MatchOption};
+ghost use Rattle.std.specs.Prelude.{◌≡◌, ◌+◌, ◌≤◌, ◌<◌, ◌^◌, ◌⊎◌, ◌∷◌, [], true, length, pos, IfOk, MatchOption};
 ghost use Rattle.demangle_text.specs.Bytes.{span};
 ghost use Rattle.demangle_text.specs.Kind.{Gives};
 ghost use Rattle.demangle_text.specs.Number.{natural_at, natural_from, number_from};
@@ -26,11 +26,28 @@ pub fn behind(text: Text<'_>, at: u32, count: usize) -> u32
     at + count as u32
 }
 
-/// Where the text goes on behind a word. `UnexpectedEnd` exactly where fewer bytes are left than the word has, else
-/// `UnexpectedText` exactly where they are others.
+/// The same as `word`, for a word of one letter.
+#[inline(always)]
+#[tactic(auto, using(crate::proofs::Places::places), unfolding(demangle_text::specs::Word::word_at))]
+fn letter(text: Text<'_>, at: u32, letter: u8) -> Result<u32>
+    ensures { Gives (λ stop. spot_at text.entry stop) result (word_at (letter ∷ []) (spot_at text.entry at)) }
+{
+    match text.rest(at) {
+        [] => Err(Error::UnexpectedEnd),
+        [byte, ..] => {
+            if *byte == letter {
+                Ok(behind(text, at, 1))
+            } else {
+                Err(Error::UnexpectedText)
+            }
+        }
+    }
+}
+
+/// The same for a word of any length.
 #[inline(always)]
 #[tactic(auto, using(crate::proofs::Places::places, demangle_text::proofs::Starts::words), unfolding(demangle_text::specs::Word::word_at))]
-pub fn word(text: Text<'_>, at: u32, word: &[u8]) -> Result<u32>
+fn letters(text: Text<'_>, at: u32, word: &[u8]) -> Result<u32>
     ensures { Gives (λ stop. spot_at text.entry stop) result (word_at word.now (spot_at text.entry at)) }
 {
     let rest = text.rest(at);
@@ -41,6 +58,18 @@ pub fn word(text: Text<'_>, at: u32, word: &[u8]) -> Result<u32>
         Ok(behind(text, at, word.len()))
     } else {
         Err(Error::UnexpectedText)
+    }
+}
+
+/// Where the text goes on behind a word. `UnexpectedEnd` exactly where fewer bytes are left than the word has, else
+/// `UnexpectedText` exactly where they are others. Most words are of one letter, and written where they are asked for.
+#[inline(always)]
+pub fn word(text: Text<'_>, at: u32, word: &[u8]) -> Result<u32>
+    ensures { Gives (λ stop. spot_at text.entry stop) result (word_at word.now (spot_at text.entry at)) }
+{
+    match word {
+        [only] => letter(text, at, *only),
+        _ => letters(text, at, word),
     }
 }
 
