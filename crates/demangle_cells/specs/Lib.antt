@@ -7,5 +7,6 @@ pub mod Held
 pub mod Stored
 pub mod View
 pub mod Model
+pub mod Ledger
 pub mod Memo
 pub mod Reads

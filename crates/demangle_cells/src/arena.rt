@@ -1,7 +1,7 @@
 //! The arena: the trees of a name, and a memo of what was read before.
 
 ghost use Rattle.std.specs.Prelude.{◌≡◌, ◌≤◌, ◌+◌, ◌-◌, ◌<◌, ◌++◌, [], ◌∷◌, true, false, length, take, drop, ℕ};
-ghost use Rattle.std.specs.Prelude.{IfErr, IfOk, IfSome, List, MatchOption, OnErr, OnOk, nat_lt, option_map, slice_get};
+ghost use Rattle.std.specs.Prelude.{◌⊎◌, IfErr, IfOk, IfSome, List, MatchOption, OnErr, OnOk, nat_lt, option_map, slice_get};
 ghost use Rattle.demangle_cells.specs.Stored.{stored};
 ghost use Rattle.demangle_cells.specs.Memo.{IsMemo, memory};
 
@@ -11,6 +11,7 @@ use crate::cell::{Cell, ListOf};
 use crate::depth::Depth;
 use crate::entry::{Entry, Mark};
 use crate::memo::Memo;
+use crate::nestable::is_nestable;
 use crate::path::follow;
 use crate::plain::Plain;
 use crate::store::Store;
@@ -36,10 +37,10 @@ impl Arena {
     ghost use Rattle.demangle_cells.specs.Cells.{list_tree, plain_tree, row, span, tree};
     ghost use Rattle.demangle_cells.specs.Fixed.{absent, first_cell};
     ghost use Rattle.demangle_cells.specs.Held.{held};
-    ghost use Rattle.demangle_cells.specs.Memo.{row_of, stamp_at};
+    ghost use Rattle.demangle_cells.specs.Ledger.{stamp_at};
+    ghost use Rattle.demangle_cells.specs.Memo.{row_of};
     ghost use Rattle.demangle_cells.specs.Reads.{Gathers, ReadsRow};
     ghost use Rattle.demangle_grammar.specs.Fits.{AllOf};
-    ghost use Rattle.demangle_text.specs.Kind.{ends, kind};
     ghost use Rattle.std.specs.Prelude.{◌==◌, Err, Ok, not};
     ghost use Rattle.demangle_cells.specs.View.{FitsMark, Grown, Holds, IsCut, IsMark, KeepsTrees, View, table, view};
     ghost use Rattle.demangle_cells.specs.View.{which_of};
@@ -118,7 +119,8 @@ impl Arena {
         requires { FitsMark (view self.old) mark }
         ensures { IsCut mark (view self.old) (view self.new) }
     {
-        self.memo.stamps.truncate(mark.entries);
+        self.memo.components.truncate(mark.entries);
+        self.memo.outlines.truncate(mark.entries);
         self.store.cut_back(mark);
     }
 
@@ -239,12 +241,12 @@ impl Arena {
     fn stamp_next(&mut self) -> bool
         ensures same { view self.new ≡ view self.old }
         ensures text { (memory self.new.memo).text ≡ (memory self.old.memo).text }
-        ensures more { result ≡ true
-            → length (memory self.new.memo).stamps ≡ length (memory self.old.memo).stamps + 1 }
+        ensures more { result ≡ true → length (memory self.new.memo).components.stamps
+            ≡ length (memory self.old.memo).components.stamps + 1 }
     {
-        match self.store.entry(self.memo.stamps.len()) {
+        match self.store.entry(self.memo.components.len()) {
             None => false,
-            Some(entry) => self.memo.note(entry).is_ok(),
+            Some(entry) => self.memo.components.note(entry).is_ok(),
         }
     }
 
@@ -253,56 +255,125 @@ impl Arena {
     fn stamp_all(&mut self) -> bool
         ensures same { view self.new ≡ view self.old }
         ensures text { (memory self.new.memo).text ≡ (memory self.old.memo).text }
-        ensures whole { result ≡ true → length (memory self.new.memo).stamps ≡ length (view self.new).entries }
+        ensures whole { result ≡ true
+            → length (memory self.new.memo).components.stamps ≡ length (view self.new).entries }
     {
-        while self.memo.stamps.len() < self.store.count() {
+        while self.memo.components.len() < self.store.count() {
             if !self.stamp_next() {
                 return false;
             }
         }
-        self.memo.stamps.len() == self.store.count()
+        self.memo.components.len() == self.store.count()
+    }
+
+    /// The first component of which it has no stamp what a reading sees gets one; whether it did.
+    #[tactic(auto, using(crate::proofs::Memos::memos), unfolding(crate::specs::View::view))]
+    fn outline_next(&mut self) -> bool
+        ensures same { view self.new ≡ view self.old }
+        ensures text { (memory self.new.memo).text ≡ (memory self.old.memo).text }
+        ensures components { (memory self.new.memo).components ≡ (memory self.old.memo).components }
+        ensures more { result ≡ true → length (memory self.new.memo).outlines.stamps
+            ≡ length (memory self.old.memo).outlines.stamps + 1 }
+    {
+        let Some(entry) = self.store.entry(self.memo.outlines.len()) else {
+            return false;
+        };
+        match is_nestable(&self.store, entry.id) {
+            None => false,
+            Some(nestable) => {
+                let last = Entry {
+                    numbered: entry.numbered,
+                    id: if nestable { 1 } else { 0 },
+                };
+                self.memo.note_outline(last).is_ok()
+            }
+        }
+    }
+
+    /// What a reading sees of each component gets its stamp; whether all have theirs.
+    #[tactic(auto, using(crate::proofs::Memos::memos), unfolding(crate::specs::View::view))]
+    fn outline_all(&mut self) -> bool
+        ensures same { view self.new ≡ view self.old }
+        ensures text { (memory self.new.memo).text ≡ (memory self.old.memo).text }
+        ensures components { (memory self.new.memo).components ≡ (memory self.old.memo).components }
+        ensures whole { result ≡ true
+            → length (memory self.new.memo).outlines.stamps ≡ length (view self.new).entries }
+    {
+        while self.memo.outlines.len() < self.store.count() {
+            if !self.outline_next() {
+                return false;
+            }
+        }
+        self.memo.outlines.len() == self.store.count()
+    }
+
+    /// Begins with these bytes where nothing is known yet; whether it is a memo of these bytes in which all components
+    /// have their stamps.
+    #[tactic(auto, using(crate::proofs::Memos::memos), unfolding(crate::specs::View::view))]
+    fn is_ready(&mut self, bytes: &[u8]) -> bool
+        ensures same { view self.new ≡ view self.old }
+        ensures text { result ≡ true → (memory self.new.memo).text ≡ bytes.now }
+        ensures components { result ≡ true
+            → length (memory self.new.memo).components.stamps ≡ length (view self.new).entries }
+        ensures outlines { result ≡ true
+            → length (memory self.new.memo).outlines.stamps ≡ length (view self.new).entries }
+    {
+        self.memo.is_for(bytes) && self.stamp_all() && self.outline_all()
     }
 
     /// The stamp of the components.
     #[tactic(auto, unfolding(crate::specs::View::view))]
     fn stamp(&self) -> u32
-        ensures { result ≡ stamp_at (length (view self.now).entries) (memory self.now.memo).stamps }
+        ensures { result ≡ stamp_at (length (view self.now).entries) (memory self.now.memo).components.stamps }
     {
-        self.memo.stamp(self.store.count())
+        self.memo.components.stamp(self.store.count())
+    }
+
+    /// The stamp of what a row that is read of these bytes sees of the first so many components: that of none where no
+    /// `S` is among the bytes.
+    #[tactic(auto, unfolding(crate::specs::View::view))]
+    fn outline_before(&self, count: usize, bytes: &[u8]) -> u32
+        ensures { ((result ≡ 0) × AllOf (λ b. not (b == 83)) bytes.now)
+            ⊎ (result ≡ stamp_at count (memory self.now.memo).outlines.stamps) }
+    {
+        if has_no_reference(bytes) {
+            0
+        } else {
+            self.memo.outlines.stamp(count)
+        }
     }
 
     /// Adds a component of a stamp that tells it; whether it did.
     #[tactic(auto, using(crate::proofs::Memos::memos), unfolding(crate::specs::View::view))]
     fn add_stamped(&mut self, stamp: u32, numbered: bool, id: u32) -> bool
-        requires whole { length (memory self.old.memo).stamps ≡ length (view self.old).entries }
+        requires whole { length (memory self.old.memo).components.stamps ≡ length (view self.old).entries }
         requires positive { 0 < stamp }
-        requires told { slice_get (memory self.old.memo).log (stamp - 1) ≡ Some (record {
-          before = stamp_at (length (view self.old).entries) (memory self.old.memo).stamps;
+        requires told { slice_get (memory self.old.memo).components.log (stamp - 1) ≡ Some (record {
+          before = stamp_at (length (view self.old).entries) (memory self.old.memo).components.stamps;
           numbered = numbered;
           id = id;
         }) }
         ensures grown { Grown (view self.old) (view self.new) }
-        ensures log { (memory self.new.memo).log ≡ (memory self.old.memo).log }
-        ensures whole { result ≡ true → length (memory self.new.memo).stamps ≡ length (view self.new).entries }
+        ensures log { (memory self.new.memo).components.log ≡ (memory self.old.memo).components.log }
+        ensures whole { result ≡ true
+            → length (memory self.new.memo).components.stamps ≡ length (view self.new).entries }
     {
         match self.store.add(numbered, id) {
             Err(_) => false,
-            Ok(_) => self.memo.stamps.push(stamp).is_ok(),
+            Ok(_) => self.memo.components.push(stamp).is_ok(),
         }
     }
 
     /// Adds a component once more by its stamp, where its log says that it came behind these.
     #[tactic(auto, using(crate::proofs::Memos::memos), unfolding(crate::specs::View::view))]
     fn put_back(&mut self, stamp: u32) -> bool
-        requires { length (memory self.old.memo).stamps ≡ length (view self.old).entries }
+        requires { length (memory self.old.memo).components.stamps ≡ length (view self.old).entries }
         ensures grown { Grown (view self.old) (view self.new) }
-        ensures log { (memory self.new.memo).log ≡ (memory self.old.memo).log }
-        ensures whole { result ≡ true → length (memory self.new.memo).stamps ≡ length (view self.new).entries }
+        ensures log { (memory self.new.memo).components.log ≡ (memory self.old.memo).components.log }
+        ensures whole { result ≡ true
+            → length (memory self.new.memo).components.stamps ≡ length (view self.new).entries }
     {
-        if stamp == 0 {
-            return false;
-        }
-        match self.memo.log.get(stamp as usize - 1) {
+        match self.memo.components.told(stamp) {
             Some(was) if was.before == self.stamp() => {
                 self.add_stamped(stamp, was.numbered, was.id)
             }
@@ -313,15 +384,16 @@ impl Arena {
     /// Adds the components between these and those of a stamp once more; whether it did.
     #[tactic(auto, using(crate::proofs::Memos::memos), unfolding(crate::specs::View::view))]
     fn restore(&mut self, stamp: u32) -> bool
-        requires { length (memory self.old.memo).stamps ≡ length (view self.old).entries }
+        requires { length (memory self.old.memo).components.stamps ≡ length (view self.old).entries }
         ensures grown { Grown (view self.old) (view self.new) }
-        ensures log { (memory self.new.memo).log ≡ (memory self.old.memo).log }
-        ensures whole { result ≡ true → length (memory self.new.memo).stamps ≡ length (view self.new).entries }
-        ensures stamp { result ≡ true
-            → stamp ≡ stamp_at (length (view self.new).entries) (memory self.new.memo).stamps }
+        ensures log { (memory self.new.memo).components.log ≡ (memory self.old.memo).components.log }
+        ensures whole { result ≡ true
+            → length (memory self.new.memo).components.stamps ≡ length (view self.new).entries }
+        ensures stamp { result ≡ true → stamp
+            ≡ stamp_at (length (view self.new).entries) (memory self.new.memo).components.stamps }
     {
         let from = self.stamp();
-        let mut left = match follow(&self.memo.log, &mut self.memo.path, stamp, from) {
+        let mut left = match follow(&self.memo.components, &mut self.memo.path, stamp, from) {
             Ok(count) => count,
             Err(_) => return false,
         };
@@ -336,8 +408,8 @@ impl Arena {
     }
 
     /// The answer to a row that was read before, at this place of this text, with no more levels, and with the same
-    /// components, or with any where it was refused and no `S` is left; the components that came with it come once
-    /// more. None where none is kept; nothing changes then. To be asked once rows are late.
+    /// components, or, where it was refused, with any of which a reading sees the same; the components that came with it
+    /// come once more. None where none is kept; nothing changes then. To be asked once rows are late.
     #[inline(never)]
     #[tactic(auto, using(crate::proofs::Memos::memos), unfolding(crate::specs::View::view))]
     pub fn recall(
@@ -352,45 +424,34 @@ impl Arena {
             (λ answer. ReadsRow (row_of row) depth.levels depth.conversion text.entry at answer
             (view self.old) (view self.new)) }
     {
-        if !self.memo.is_for(text.bytes) || !self.stamp_all() {
+        if !self.is_ready(text.bytes) {
             return None;
         }
-        if has_no_reference(text.rest(at)) {
-            return self.refused(row, depth, text, at);
-        }
-        self.answered(row, depth, text, at)
-    }
-
-    /// The refusal of a row behind which no `S` is left, whatever the components are; else its answer with these.
-    #[tactic(auto, using(crate::proofs::Memos::memos), unfolding(crate::specs::View::view))]
-    fn refused(
-        &mut self,
-        row: RowName,
-        depth: Depth,
-        text: Text<'_>,
-        at: u32,
-    ) -> Option<Result<Part>>
-        requires bytes { (memory self.old.memo).text ≡ text.bytes.now }
-        requires whole { length (memory self.old.memo).stamps ≡ length (view self.old).entries }
-        requires alone { AllOf (λ b. not (b == 83)) (drop at text.bytes.now) }
-        ensures grown { Grown (view self.old) (view self.new) }
-        ensures answer { MatchOption result (view self.new ≡ view self.old)
-            (λ answer. ReadsRow (row_of row) depth.levels depth.conversion text.entry at answer
-            (view self.old) (view self.new)) }
-    {
-        let key = Key {
-            row,
-            at,
-            conversion: depth.conversion,
-            before: 0,
-        };
-        match self.memo.refusal(key, depth.levels) {
+        match self.refused(row, depth, text, at) {
             Some(error) => Some(Err(error)),
             None => self.answered(row, depth, text, at),
         }
     }
 
-    /// The answer with these components.
+    /// Why a row is refused with these components, as it was with others of which a reading sees the same.
+    #[tactic(auto, unfolding(crate::specs::View::view))]
+    fn refused(&self, row: RowName, depth: Depth, text: Text<'_>, at: u32) -> Option<Error>
+        requires bytes { (memory self.now.memo).text ≡ text.bytes.now }
+        requires whole { length (memory self.now.memo).outlines.stamps ≡ length (view self.now).entries }
+        ensures { IfSome result (λ e. ReadsRow (row_of row) depth.levels depth.conversion text at (Err e)
+            (view self.now) (view self.now)) }
+    {
+        let key = Key {
+            row,
+            at,
+            conversion: depth.conversion,
+            before: self.outline_before(self.store.count(), text.rest(at)),
+            alike: true,
+        };
+        self.memo.refusal(key, depth.levels)
+    }
+
+    /// What was found with these components.
     #[tactic(auto, using(crate::proofs::Memos::memos), unfolding(crate::specs::View::view))]
     fn answered(
         &mut self,
@@ -400,7 +461,7 @@ impl Arena {
         at: u32,
     ) -> Option<Result<Part>>
         requires bytes { (memory self.old.memo).text ≡ text.bytes.now }
-        requires whole { length (memory self.old.memo).stamps ≡ length (view self.old).entries }
+        requires whole { length (memory self.old.memo).components.stamps ≡ length (view self.old).entries }
         ensures grown { Grown (view self.old) (view self.new) }
         ensures answer { MatchOption result (view self.new ≡ view self.old)
             (λ answer. ReadsRow (row_of row) depth.levels depth.conversion text.entry at answer
@@ -411,10 +472,11 @@ impl Arena {
             at,
             conversion: depth.conversion,
             before: self.stamp(),
+            alike: false,
         };
         let known = self.memo.find(key, depth.levels)?;
         match known.outcome {
-            Outcome::Refused(error) => Some(Err(error)),
+            Outcome::Refused(_) => None,
             Outcome::Found(part, behind) => {
                 if self.restore(behind) {
                     Some(Ok(part))
@@ -442,7 +504,7 @@ impl Arena {
             × (ReadsRow (row_of row) depth.levels depth.conversion text at answer.now before (view self.old))) }
         ensures { view self.new ≡ view self.old }
     {
-        if self.memo.is_for(text.bytes) && self.stamp_all() {
+        if self.is_ready(text.bytes) {
             match answer {
                 Ok(part) => self.keep_part(row, mark, depth, text, at, *part),
                 Err(error) => self.keep_refusal(row, mark, depth, text, at, *error),
@@ -462,7 +524,7 @@ impl Arena {
         part: Part,
     )
         requires bytes { (memory self.old.memo).text ≡ text.bytes.now }
-        requires whole { length (memory self.old.memo).stamps ≡ length (view self.old).entries }
+        requires whole { length (memory self.old.memo).components.stamps ≡ length (view self.old).entries }
         requires read { (before : View) × ((IsMark before mark) × (Grown before (view self.old))
             × (ReadsRow (row_of row) depth.levels depth.conversion text at (Ok part) before (view self.old))) }
         ensures { view self.new ≡ view self.old }
@@ -471,7 +533,8 @@ impl Arena {
             row,
             at,
             conversion: depth.conversion,
-            before: self.memo.stamp(mark.entries),
+            before: self.memo.components.stamp(mark.entries),
+            alike: false,
         };
         let behind = self.stamp();
         self.memo.put(Known {
@@ -493,7 +556,7 @@ impl Arena {
         error: Error,
     )
         requires bytes { (memory self.old.memo).text ≡ text.bytes.now }
-        requires whole { length (memory self.old.memo).stamps ≡ length (view self.old).entries }
+        requires whole { length (memory self.old.memo).outlines.stamps ≡ length (view self.old).entries }
         requires read { (before : View) × ((IsMark before mark) × (Grown before (view self.old))
             × (ReadsRow (row_of row) depth.levels depth.conversion text at (Err error) before (view self.old))) }
         ensures { view self.new ≡ view self.old }
@@ -501,59 +564,12 @@ impl Arena {
         if !is_of_bytes(error) {
             return;
         }
-        if has_no_reference(text.rest(at)) {
-            self.put_free(row, depth, text, at, error);
-        } else {
-            self.put_bound(row, mark, depth, text, at, error);
-        }
-    }
-
-    /// Keeps a refusal behind which no `S` is left, for any components.
-    #[tactic(auto, using(crate::proofs::Memos::memos), unfolding(crate::specs::View::view))]
-    fn put_free(&mut self, row: RowName, depth: Depth, text: Text<'_>, at: u32, error: Error)
-        requires bytes { (memory self.old.memo).text ≡ text.bytes.now }
-        requires alone { AllOf (λ b. not (b == 83)) (drop at text.bytes.now) }
-        requires unread { ends (kind error) ≡ false }
-        requires read { (before : View) × ((Grown before (view self.old))
-            × (ReadsRow (row_of row) depth.levels depth.conversion text at (Err error) before (view self.old))) }
-        ensures { view self.new ≡ view self.old }
-    {
         let key = Key {
             row,
             at,
             conversion: depth.conversion,
-            before: 0,
-        };
-        self.memo.put(Known {
-            key,
-            levels: depth.levels,
-            outcome: Outcome::Refused(error),
-        });
-    }
-
-    /// Keeps a refusal for the components before it.
-    #[tactic(auto, using(crate::proofs::Memos::memos), unfolding(crate::specs::View::view))]
-    fn put_bound(
-        &mut self,
-        row: RowName,
-        mark: Mark,
-        depth: Depth,
-        text: Text<'_>,
-        at: u32,
-        error: Error,
-    )
-        requires bytes { (memory self.old.memo).text ≡ text.bytes.now }
-        requires whole { length (memory self.old.memo).stamps ≡ length (view self.old).entries }
-        requires unread { ends (kind error) ≡ false }
-        requires read { (before : View) × ((IsMark before mark) × (Grown before (view self.old))
-            × (ReadsRow (row_of row) depth.levels depth.conversion text at (Err error) before (view self.old))) }
-        ensures { view self.new ≡ view self.old }
-    {
-        let key = Key {
-            row,
-            at,
-            conversion: depth.conversion,
-            before: self.memo.stamp(mark.entries),
+            before: self.outline_before(mark.entries, text.rest(at)),
+            alike: true,
         };
         self.memo.put(Known {
             key,

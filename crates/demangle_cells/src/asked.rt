@@ -21,14 +21,15 @@ pub enum RowName {
 }
 
 /// What was asked: the row, where in the text, whether a conversion operator's type is being read, and the stamp of the
-/// components before. A refusal behind which no `S` is left in the text holds for any components; it is kept under the
-/// stamp of none.
+/// components before, or, where it is alike for all of which a reading sees the same, the stamp of their outline. A
+/// refusal behind which no `S` is left in the text holds for any components; it is kept under the stamp of none.
 #[derive(Clone, Copy, PartialEq, Eq)]
 pub(crate) struct Key {
     pub row: RowName,
     pub at: u32,
     pub conversion: bool,
     pub before: u32,
+    pub alike: bool,
 }
 
 /// What a row answered.
@@ -49,7 +50,8 @@ pub(crate) struct Known {
 }
 
 /// A component that was added once, behind those of the stamp `before`; its own stamp is its number in the log, from 1
-/// on. So a stamp tells all the components that there were: those of the stamp before it, and its own. 0 tells none.
+/// on. So a stamp tells all the components that there were: those of the stamp before it, and its own. 0 tells none. Of
+/// an outline `id` tells whether a nested name can take over the component: 1 or 0.
 #[derive(Clone, Copy)]
 pub(crate) struct Stamp {
     pub before: u32,

@@ -1,21 +1,25 @@
 //! What was read before, so that it needn't be read again.
 
-ghost use Rattle.std.specs.Prelude.{◌≡◌, ◌+◌, ◌-◌, ◌<◌, ◌≤◌, ◌++◌, [], ◌∷◌, ℕ, length, take, true, slice_get};
-ghost use Rattle.std.specs.Prelude.{◌⊎◌, IfErr, IfOk, IfSome, OnErr, OnOk};
+ghost use Rattle.std.specs.Prelude.{◌≡◌, ◌-◌, ◌<◌, ◌≤◌, ◌++◌, ◌⊎◌, [], ◌∷◌, ℕ, length, true, slice_get, Some, IfSome};
+ghost use Rattle.std.specs.Prelude.{OnErr, OnOk};
 
-use crate::asked::{Key, Known, Outcome, Stamp};
+use crate::asked::{Key, Known, Outcome};
 use crate::entry::Entry;
+use crate::ledger::Ledger;
 use crate::room::Room;
 use demangle_text::{Error, Result};
 use std::alloc::Global;
 
-/// The stamps of the first components, in the order in which they came, with the log of all that ever got one since the
-/// arena was cleared: they get them late, once what rows answer is kept. And what is known of rows of a text. For each `Known` there is in `links` the one
-/// before it that has the same place in `heads`, which holds the last of them. Both count from 1 on.
+/// What is known of rows of a text. The first components have stamps, in the order in which they came, and so has what a
+/// reading sees of them: the first tell which components stood before what was found, the others for which of them it
+/// was refused. They get them late, once what rows answer is kept. For each `Known` there is in `links` the one before
+/// it that has the same place in `heads`, which holds the last of them; both count from 1 on. `children` has the stamp
+/// of an outline at the place of the one before it and of what is last in it.
 #[derive(Drop)]
 pub(crate) struct Memo {
-    pub log: Room<Stamp>,
-    pub stamps: Room<u32>,
+    pub components: Ledger,
+    pub outlines: Ledger,
+    children: Vec<u32>,
     pub known: Room<Known>,
     pub text: Room<u8>,
     pub path: Room<u32>,
@@ -36,21 +40,22 @@ const MOST: usize = 1 << 22;
 const FIRST_HEADS: usize = 256;
 
 impl Memo {
-    ghost use Rattle.demangle_text.specs.declared.error.Error.TheVariants.{OutOfMemory};
     ghost use Rattle.demangle_cells.specs.Held.{held};
-    ghost use Rattle.demangle_cells.specs.Memo.{stamp_at, IsAmong, memory};
+    ghost use Rattle.demangle_cells.specs.Ledger.{NotesOnce, ledger, stamp_at};
+    ghost use Rattle.demangle_cells.specs.Memo.{IsAmong, memory};
     ghost use Rattle.demangle_cells.specs.declared.asked.Known.{Known};
     ghost use Rattle.demangle_cells.specs.declared.asked.Outcome.TheVariants as of_outcome;
 
     /// A memo of nothing. It takes no memory.
     pub fn new(alloc: Global) -> Memo
-        ensures log { held result.log ≡ [] }
-        ensures stamps { held result.stamps ≡ [] }
+        ensures components { (ledger result.components).stamps ≡ [] }
+        ensures outlines { (ledger result.outlines).stamps ≡ [] }
         ensures known { held result.known ≡ [] }
     {
         Memo {
-            log: Room::new(alloc),
-            stamps: Room::new(alloc),
+            components: Ledger::new(alloc),
+            outlines: Ledger::new(alloc),
+            children: Vec::new(alloc),
             known: Room::new(alloc),
             text: Room::new(alloc),
             path: Room::new(alloc),
@@ -62,31 +67,17 @@ impl Memo {
 
     /// Of nothing again; the room is kept.
     pub fn clear(&mut self)
-        ensures log { held self.new.log ≡ [] }
-        ensures stamps { held self.new.stamps ≡ [] }
+        ensures components { (ledger self.new.components).stamps ≡ [] }
+        ensures outlines { (ledger self.new.outlines).stamps ≡ [] }
         ensures known { held self.new.known ≡ [] }
     {
-        self.log.truncate(0);
-        self.stamps.truncate(0);
+        self.components.clear();
+        self.outlines.clear();
+        self.children.clear();
         self.known.truncate(0);
         self.heads.clear();
         self.links.clear();
         self.rows = 0;
-    }
-
-    /// The stamp of so many components.
-    #[inline(always)]
-    #[tactic(auto, using(crate::proofs::Stamps::stamps))]
-    pub fn stamp(&self, count: usize) -> u32
-        ensures { result ≡ stamp_at count (held self.now.stamps) }
-    {
-        if count == 0 {
-            return 0;
-        }
-        match self.stamps.get(count - 1) {
-            Some(stamp) => stamp,
-            None => 0,
-        }
     }
 
     /// Counts a row that is entered. Whether it is one of so many that what they answer is kept.
@@ -98,44 +89,68 @@ impl Memo {
         self.rows / PATIENCE > length
     }
 
-    /// A new stamp for the first component that has none, which stands behind those that have theirs.
-    #[tactic(auto, using(crate::proofs::Stamps::stamps))]
-    pub fn note(&mut self, entry: Entry) -> Result<()>
-        ensures log { OnOk result ((memory self.new).log ≡ (memory self.old).log ++ record {
-          before = stamp_at (length (memory self.old).stamps) (memory self.old).stamps;
-          numbered = entry.numbered;
-          id = entry.id;
-        } ∷ []) }
-        ensures stamps { OnOk result ((memory self.new).stamps
-            ≡ (memory self.old).stamps ++ (length (memory self.old).log + 1) ∷ []) }
-        ensures same_log { OnErr result ((memory self.new).log ≡ (memory self.old).log) }
-        ensures same_stamps { OnErr result ((memory self.new).stamps ≡ (memory self.old).stamps) }
+    /// Where the stamp of an outline has its place that ends so behind another.
+    fn place_of_child(before: u32, last: Entry) -> usize {
+        let place = (before as usize).saturating_mul(4);
+        let numbered = if last.numbered { 2 } else { 0 };
+        let nestable = if last.id == 1 { 1 } else { 0 };
+        place.saturating_add(numbered + nestable)
+    }
+
+    /// The stamp at a place, where it tells this behind that.
+    fn child(&self, place: usize, before: u32, last: Entry) -> Option<u32>
+        ensures positive { IfSome result (λ s. 0 < s) }
+        ensures told { IfSome result (λ s. slice_get (memory self.now).outlines.log (s - 1) ≡ Some (record {
+          before = before;
+          numbered = last.numbered;
+          id = last.id;
+        })) }
+    {
+        let child = self.children.get(place).copied().unwrap_or(0);
+        let told = self.outlines.told(child)?;
+        if told.before == before && told.numbered == last.numbered && told.id == last.id {
+            Some(child)
+        } else {
+            None
+        }
+    }
+
+    /// Keeps a stamp at its place. Where there is no room it is never found again.
+    fn keep_child(&mut self, place: usize, child: u32) -> Result<()>
+        ensures { memory self.new ≡ memory self.old }
+    {
+        if place >= self.children.len() {
+            self.children
+                .resize(place.saturating_mul(2).max(FIRST_HEADS), 0)?;
+        }
+        if let Some(kept) = self.children.get_mut(place) {
+            *kept = child;
+        }
+        Ok(())
+    }
+
+    /// What a reading sees of one component more gets the stamp that it had where it was seen before, or a new one.
+    pub fn note_outline(&mut self, last: Entry) -> Result<()>
+        ensures noted { OnOk result (NotesOnce (memory self.old).outlines (memory self.new).outlines last) }
+        ensures same { OnErr result ((memory self.new).outlines ≡ (memory self.old).outlines) }
+        ensures components { (memory self.new).components ≡ (memory self.old).components }
         ensures known { (memory self.new).known ≡ (memory self.old).known }
         ensures text { (memory self.new).text ≡ (memory self.old).text }
     {
-        let before = self.stamp(self.stamps.len());
-        let number = self.log.len();
-        if number >= u32::MAX as usize {
-            return Err(Error::OutOfMemory);
+        let before = self.outlines.stamp(self.outlines.len());
+        let place = Self::place_of_child(before, last);
+        if let Some(child) = self.child(place, before, last) {
+            return self.outlines.push(child);
         }
-        self.log.push(Stamp {
-            before,
-            numbered: entry.numbered,
-            id: entry.id,
-        })?;
-        match self.stamps.push(number as u32 + 1) {
-            Ok(()) => Ok(()),
-            Err(error) => {
-                self.log.truncate(number);
-                Err(error)
-            }
-        }
+        self.outlines.note(last)?;
+        let _kept = self.keep_child(place, self.outlines.stamp(self.outlines.len()));
+        Ok(())
     }
 
     /// Begins with these bytes where nothing is known yet; whether it is a memo of these bytes.
     pub fn is_for(&mut self, bytes: &[u8]) -> bool
-        ensures log { (memory self.new).log ≡ (memory self.old).log }
-        ensures stamps { (memory self.new).stamps ≡ (memory self.old).stamps }
+        ensures components { (memory self.new).components ≡ (memory self.old).components }
+        ensures outlines { (memory self.new).outlines ≡ (memory self.old).outlines }
         ensures known { (memory self.new).known ≡ (memory self.old).known }
         ensures text { ((memory self.new).text ≡ (memory self.old).text) ⊎ ((memory self.old).known ≡ []) }
         ensures bytes { result ≡ true → (memory self.new).text ≡ bytes.now }
@@ -149,9 +164,11 @@ impl Memo {
 
     /// Where a key has its place among so many.
     fn place_of(key: Key, count: usize) -> usize {
-        let row = key.row as usize + if key.conversion { 8 } else { 0 };
+        let row = key.row as usize
+            + if key.conversion { 8 } else { 0 }
+            + if key.alike { 16 } else { 0 };
         let mixed = (key.at as usize)
-            .wrapping_mul(16)
+            .wrapping_mul(32)
             .wrapping_add(row)
             .wrapping_mul(0x9e37_79b9_7f4a_7c15)
             .wrapping_add(key.before as usize)
@@ -231,8 +248,8 @@ impl Memo {
     /// Something more that is known. Where there is no room, or much is known already, it isn't kept.
     #[inline(never)]
     pub fn put(&mut self, known: Known)
-        ensures log { (memory self.new).log ≡ (memory self.old).log }
-        ensures stamps { (memory self.new).stamps ≡ (memory self.old).stamps }
+        ensures components { (memory self.new).components ≡ (memory self.old).components }
+        ensures outlines { (memory self.new).outlines ≡ (memory self.old).outlines }
         ensures text { (memory self.new).text ≡ (memory self.old).text }
         ensures known { ((memory self.new).known ≡ (memory self.old).known)
             ⊎ ((memory self.new).known ≡ (memory self.old).known ++ known ∷ []) }
