@@ -8,5 +8,6 @@ pub mod Blocks
 pub mod Exists
 pub mod Sets
 pub mod Stamps
+pub mod Outlines
 pub mod Levels
 pub mod Memos

@@ -3,10 +3,10 @@ use Rattle.std.proofs.Common.{◌≡◌, refl, ap, sym, ◌∙◌, subst, ℕ, z
 use Rattle.std.proofs.Common.{length, take, reverse, arith, Option, Some, None, slice_get, slice_index, ◌⊎◌, inl, inr}
 use Rattle.std.proofs.Common.{◌≢◌}
 use Rattle.std.proofs.lemmas.List.{reverse-append}
-use Rattle.demangle_cells.specs.Memo.{IsChain, stamp_at, Stamped}
+use Rattle.demangle_cells.specs.Ledger.{IsChain, stamp_at, Stamps, Stamped, NotesOnce}
 use Rattle.demangle_cells.specs.declared.entry.Entry as made
 use Rattle.demangle_cells.specs.declared.asked.Stamp as stamp
-use Rattle.demangle_cells.proofs.Lists.{length_last}
+use Rattle.demangle_cells.proofs.Lists.{length_last, take_front}
 
 -- ---- lists
 pub get_on : {A : Type 0} (xs ys : List A) (i : ℕ) (x : A) → slice_get xs i ≡ Some x → slice_get (xs ++ ys) i ≡ Some x
@@ -90,25 +90,16 @@ chain_same log s (e ∷ es) (d ∷ ds) h k =
     let r : es ≡ ds = chain_same log h.0 es ds h.1.2 (subst (λ t. IsChain log t ds) (sym b) k.1.2) in
     ap (λ x. x ∷ es) i ∙ ap (λ l. d ∷ l) r
 
--- ---- the stamps of components
-pub stamped_none : (log : List stamp.Stamp) (stamps : List ℕ) (entries : List made.Entry) → stamps ≡ []
-    → Stamped log stamps entries
-stamped_none log stamps entries s = record {
+-- ---- the stamps of a list
+pub stamped_none : (l : Stamps) (list : List made.Entry) → l.stamps ≡ [] → Stamped l list
+stamped_none l list s = record {
   few = omega (arith, ap length s);
   each = λ k h. first k (omega (arith, h, ap length s));
 }
   where
-    first : (k : ℕ) → k ≤ 0 → IsChain log (stamp_at k stamps) (reverse (take k entries))
+    first : (k : ℕ) → k ≤ 0 → IsChain l.log (stamp_at k l.stamps) (reverse (take k list))
     first zero h = refl
     first (suc k) h = absurd (omega arith)
-
-pub stamped_on : (log more : List stamp.Stamp) (stamps : List ℕ) (entries : List made.Entry)
-    → Stamped log stamps entries
-    → Stamped (log ++ more) stamps entries
-stamped_on log more stamps entries h = record {
-  few = h.few;
-  each = λ k l. chain_on log more _ _ (h.each k l);
-}
 
 stamp_taken : (n k : ℕ) (ts : List ℕ) → k ≤ n → stamp_at k (take n ts) ≡ stamp_at k ts
 stamp_taken n zero ts h = refl
@@ -133,82 +124,120 @@ length_taken (suc n) (x ∷ xs) (y ∷ ys) h =
     let r : length (take n xs) ≤ length (take n ys) = length_taken n xs ys (omega (arith, h)) in
     omega (arith, r)
 
-pub stamped_cut : (log : List stamp.Stamp) (stamps : List ℕ) (entries : List made.Entry) (n : ℕ)
-    → Stamped log stamps entries → Stamped log (take n stamps) (take n entries)
-stamped_cut log stamps entries n h = record {
-  few = length_taken n stamps entries h.few;
-  each = λ k l.
-      let a : k ≤ n = omega (arith, l, taken_le n stamps) in
-      let b : k ≤ length stamps = omega (arith, l, taken_less n stamps) in
-      subst (λ s. IsChain log s (reverse (take k (take n entries)))) (sym (stamp_taken n k stamps a))
-      (subst (λ es. IsChain log (stamp_at k stamps) (reverse es)) (sym (take_taken k n entries a)) (h.each k b));
+pub stamped_cut : (l m : Stamps) (list : List made.Entry) (n : ℕ) → m.log ≡ l.log → m.stamps ≡ take n l.stamps
+    → Stamped l list → Stamped m (take n list)
+stamped_cut l m list n g s h = record {
+  few = subst (λ ss. length ss ≤ length (take n list)) (sym s) (length_taken n l.stamps list h.few);
+  each = λ k w.
+      let j : k ≤ length (take n l.stamps) = subst (λ ss. k ≤ length ss) s w in
+      let a : k ≤ n = omega (arith, j, taken_le n l.stamps) in
+      let b : k ≤ length l.stamps = omega (arith, j, taken_less n l.stamps) in
+      subst (λ lo. IsChain lo (stamp_at k m.stamps) (reverse (take k (take n list)))) (sym g)
+      (subst (λ ss. IsChain l.log (stamp_at k ss) (reverse (take k (take n list)))) (sym s)
+      (subst (λ i. IsChain l.log i (reverse (take k (take n list)))) (sym (stamp_taken n k l.stamps a))
+      (subst (λ es. IsChain l.log (stamp_at k l.stamps) (reverse es)) (sym (take_taken k n list a)) (h.each k b))));
 }
 
 pub grown_length : {A : Type 0} (xs more : List A) → take (length xs) more ≡ xs → length xs ≤ length more
 grown_length xs more e = subst (λ ys. length ys ≤ length more) e (taken_less (length xs) more)
 
--- more components, which have no stamps yet
-pub stamped_grown : (log : List stamp.Stamp) (stamps : List ℕ) (entries more : List made.Entry)
-    → Stamped log stamps entries → take (length entries) more ≡ entries → Stamped log stamps more
-stamped_grown log stamps entries more h e = record {
-  few = omega (arith, h.few, grown_length entries more e);
-  each = λ k l.
-      subst (λ es. IsChain log (stamp_at k stamps) (reverse es))
-      (sym (ap (take k) e) ∙ take_taken k (length entries) more (omega (arith, l, h.few))) (h.each k l);
+-- a longer list, of which the last have no stamps yet
+pub stamped_grown : (l : Stamps) (list more : List made.Entry) → Stamped l list → take (length list) more ≡ list
+    → Stamped l more
+stamped_grown l list more h e = record {
+  few = omega (arith, h.few, grown_length list more e);
+  each = λ k w.
+      subst (λ es. IsChain l.log (stamp_at k l.stamps) (reverse es))
+      (sym (ap (take k) e) ∙ take_taken k (length list) more (omega (arith, w, h.few))) (h.each k w);
 }
 
 stamp_front : (k : ℕ) (ts us : List ℕ) → k ≤ length ts → stamp_at k (ts ++ us) ≡ stamp_at k ts
 stamp_front zero ts us h = refl
 stamp_front (suc k) ts us h = index_on ts us k (omega arith)
 
-inside : {A : Type 0} (xs : List A) (i : ℕ) (x : A) → slice_get xs i ≡ Some x → i < length xs
+pub inside : {A : Type 0} (xs : List A) (i : ℕ) (x : A) → slice_get xs i ≡ Some x → i < length xs
 inside [] i x h = absurd (grind (arith, h))
 inside (y ∷ xs) zero x h = omega arith
 inside (y ∷ xs) (suc i) x h = let r = inside xs i x h in omega (arith, r)
 
-take_next : {A : Type 0} (xs : List A) (i : ℕ) (x : A) → slice_get xs i ≡ Some x → take (suc i) xs ≡ take i xs ++ x ∷ []
+pub take_next : {A : Type 0} (xs : List A) (i : ℕ) (x : A) → slice_get xs i ≡ Some x
+    → take (suc i) xs ≡ take i xs ++ x ∷ []
 take_next [] i x h = absurd (grind (arith, h))
 take_next (y ∷ xs) zero x h = ap (λ z. z ∷ []) (same_some y x h)
 take_next (y ∷ xs) (suc i) x h = ap (λ l. y ∷ l) (take_next xs i x h)
 
--- the stamp of the first component that has none
-pub stamped_more : (log : List stamp.Stamp) (stamps : List ℕ) (entries : List made.Entry) (s : ℕ) (e : made.Entry)
-    → Stamped log stamps entries → slice_get entries (length stamps) ≡ Some e → 0 < s
-    → slice_get log (s - 1) ≡ Some (record {
-      before = stamp_at
-          (length stamps) stamps;
+-- the stamp of the first that has none, where the log tells it
+pub stamped_more : (l m : Stamps) (list : List made.Entry) (s : ℕ) (e : made.Entry) (more : List stamp.Stamp)
+    → Stamped l list → slice_get list (length l.stamps) ≡ Some e → 0 < s → m.log ≡ l.log ++ more
+    → m.stamps ≡ l.stamps ++ s ∷ []
+    → slice_get m.log (s - 1) ≡ Some (record {
+      before = stamp_at (length l.stamps) l.stamps;
       numbered = e.numbered;
       id = e.id;
     })
-    → Stamped log (stamps ++ s ∷ []) entries
-stamped_more log stamps entries s e h w p g = record {
-  few = omega (arith, length_last stamps s, inside entries (length stamps) e w);
-  each = λ k l. by k (le_or_last k (length stamps) (omega (arith, l, length_last stamps s)));
+    → Stamped m list
+stamped_more l m list s e more h w p g u t = record {
+  few = subst (λ ss. length ss ≤ length list) (sym u)
+      (omega (arith, length_last l.stamps s, inside list (length l.stamps) e w));
+  each = λ k j. by k (le_or_last k (length l.stamps) (omega (arith, j, ap length u, length_last l.stamps s)));
 }
   where
-    last : IsChain log s (reverse (take (suc (length stamps)) entries))
+    kept : (k : ℕ) → k ≤ length l.stamps → IsChain m.log (stamp_at k l.stamps) (reverse (take k list))
+    kept k j =
+        subst (λ lo. IsChain lo (stamp_at k l.stamps) (reverse (take k list))) (sym g)
+        (chain_on l.log more _ _ (h.each k j))
+
+    last : IsChain m.log s (reverse (take (suc (length l.stamps)) list))
     last =
-        subst (λ es. IsChain log s (reverse es)) (sym (take_next entries (length stamps) e w))
-        (subst (λ es. IsChain log s es) (sym (reverse-append (take (length stamps) entries) (e ∷ [])))
-        (stamp_at (length stamps) stamps, (p, g, h.each (length stamps) (omega arith))))
+        subst (λ es. IsChain m.log s (reverse es)) (sym (take_next list (length l.stamps) e w))
+        (subst (λ es. IsChain m.log s es) (sym (reverse-append (take (length l.stamps) list) (e ∷ [])))
+        (stamp_at (length l.stamps) l.stamps, (p, t, kept (length l.stamps) (omega arith))))
 
-    by : (k : ℕ) → (k ≤ length stamps) ⊎ (k ≡ suc (length stamps))
-        → IsChain log (stamp_at k (stamps ++ s ∷ [])) (reverse (take k entries))
-    by k (inl l) =
-        subst (λ t. IsChain log t (reverse (take k entries))) (sym (stamp_front k stamps (s ∷ []) l)) (h.each k l)
+    by : (k : ℕ) → (k ≤ length l.stamps) ⊎ (k ≡ suc (length l.stamps))
+        → IsChain m.log (stamp_at k m.stamps) (reverse (take k list))
+    by k (inl j) =
+        subst (λ ss. IsChain m.log (stamp_at k ss) (reverse (take k list))) (sym u)
+        (subst (λ i. IsChain m.log i (reverse (take k list))) (sym (stamp_front k l.stamps (s ∷ []) j)) (kept k j))
     by k (inr q) =
-        subst (λ n. IsChain log (stamp_at n (stamps ++ s ∷ [])) (reverse (take n entries))) (sym q)
-        (subst (λ t. IsChain log t (reverse (take (suc (length stamps)) entries))) (sym (index_end stamps s)) last)
+        subst (λ ss. IsChain m.log (stamp_at k ss) (reverse (take k list))) (sym u)
+        (subst (λ n. IsChain m.log (stamp_at n (l.stamps ++ s ∷ [])) (reverse (take n list))) (sym q)
+        (subst (λ i. IsChain m.log i (reverse (take (suc (length l.stamps)) list))) (sym (index_end l.stamps s)) last))
 
--- those of the first components, where these have theirs
-pub chain_at : (log : List stamp.Stamp) (stamps : List ℕ) (entries first : List made.Entry) (n : ℕ)
-    → Stamped log stamps entries → n ≡ length first → length first ≤ length stamps
-    → take (length first) entries ≡ first → IsChain log (stamp_at n stamps) (reverse first)
-chain_at log stamps entries first n h e l f =
-    subst (λ k. IsChain log (stamp_at k stamps) (reverse first)) (sym e)
-    (subst (λ es. IsChain log (stamp_at (length first) stamps) (reverse es)) f (h.each (length first) l))
+told_last : (log longer : List stamp.Stamp) (x : stamp.Stamp) → longer ≡ log ++ x ∷ []
+    → slice_get longer (length log + 1 - 1) ≡ Some x
+told_last log longer x l =
+    let i : length log + 1 - 1 ≡ length log = omega arith in
+    ap (λ k. slice_get longer k) i ∙ (ap (λ lo. slice_get lo (length log)) l ∙ get_end log x)
 
--- ---- the stamp of so many components, as it is looked up
+-- a new one
+pub stamped_noted : (l m : Stamps) (list : List made.Entry) (e : made.Entry) → Stamped l list
+    → slice_get list (length l.stamps) ≡ Some e
+    → m.log ≡ l.log ++ record {
+      before = stamp_at (length l.stamps) l.stamps;
+      numbered = e.numbered;
+      id = e.id;
+    } ∷ []
+    → m.stamps ≡ l.stamps ++ (length l.log + 1) ∷ [] → Stamped m list
+stamped_noted l m list e h w g u =
+    stamped_more l m list (length l.log + 1) e _ h w (omega arith) g u (told_last l.log m.log _ g)
+
+-- one more in a list, and its stamp
+pub stamped_once : (l m : Stamps) (list : List made.Entry) (e : made.Entry) → Stamped l list
+    → length list ≡ length l.stamps → NotesOnce l m e → Stamped m (list ++ e ∷ [])
+stamped_once l m list e h a n =
+    stamped_more l m (list ++ e ∷ []) n.stamp e n.more
+    (stamped_grown l list (list ++ e ∷ []) h (take_front list (e ∷ [])))
+    (subst (λ i. slice_get (list ++ e ∷ []) i ≡ Some e) a (get_end list e)) n.positive n.log n.stamps n.told
+
+-- those of the first of them, where these have theirs
+pub chain_at : (l : Stamps) (list first : List made.Entry) (n : ℕ)
+    → Stamped l list → n ≡ length first → length first ≤ length l.stamps
+    → take (length first) list ≡ first → IsChain l.log (stamp_at n l.stamps) (reverse first)
+chain_at l list first n h e w f =
+    subst (λ k. IsChain l.log (stamp_at k l.stamps) (reverse first)) (sym e)
+    (subst (λ es. IsChain l.log (stamp_at (length first) l.stamps) (reverse es)) f (h.each (length first) w))
+
+-- ---- the stamp of so many, as it is looked up
 pub stamp_found : (n s : ℕ) (ts : List ℕ) → n ≢ 0 → Some s ≡ slice_get ts (n - 1) → s ≡ stamp_at n ts
 stamp_found zero s ts h e = absurd (h refl)
 stamp_found (suc n) s ts h e =

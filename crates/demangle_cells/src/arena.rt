@@ -11,7 +11,7 @@ use crate::cell::{Cell, ListOf};
 use crate::depth::Depth;
 use crate::entry::{Entry, Mark};
 use crate::memo::Memo;
-use crate::nestable::is_nestable;
+use crate::nestable::seen_of;
 use crate::path::follow;
 use crate::plain::Plain;
 use crate::store::Store;
@@ -278,15 +278,9 @@ impl Arena {
         let Some(entry) = self.store.entry(self.memo.outlines.len()) else {
             return false;
         };
-        match is_nestable(&self.store, entry.id) {
+        match seen_of(&self.store, entry) {
             None => false,
-            Some(nestable) => {
-                let last = Entry {
-                    numbered: entry.numbered,
-                    id: if nestable { 1 } else { 0 },
-                };
-                self.memo.note_outline(last).is_ok()
-            }
+            Some(last) => self.memo.note_outline(last).is_ok(),
         }
     }
 
@@ -438,7 +432,7 @@ impl Arena {
     fn refused(&self, row: RowName, depth: Depth, text: Text<'_>, at: u32) -> Option<Error>
         requires bytes { (memory self.now.memo).text ≡ text.bytes.now }
         requires whole { length (memory self.now.memo).outlines.stamps ≡ length (view self.now).entries }
-        ensures { IfSome result (λ e. ReadsRow (row_of row) depth.levels depth.conversion text at (Err e)
+        ensures { IfSome result (λ e. ReadsRow (row_of row) depth.levels depth.conversion text.entry at (Err e)
             (view self.now) (view self.now)) }
     {
         let key = Key {
@@ -448,7 +442,10 @@ impl Arena {
             before: self.outline_before(self.store.count(), text.rest(at)),
             alike: true,
         };
-        self.memo.refusal(key, depth.levels)
+        match self.memo.refusal(key, depth.levels) {
+            Some(error) => Some(error),
+            None => None,
+        }
     }
 
     /// What was found with these components.

@@ -143,7 +143,8 @@ impl Memo {
             return self.outlines.push(child);
         }
         self.outlines.note(last)?;
-        let _kept = self.keep_child(place, self.outlines.stamp(self.outlines.len()));
+        let child = self.outlines.stamp(self.outlines.len());
+        let _kept = self.keep_child(place, child);
         Ok(())
     }
 

@@ -1,4 +1,4 @@
-use Rattle.std.proofs.Common.{refl}
+use Rattle.std.proofs.Common.{refl, ap}
 use Rattle.demangle_cells.specs.Memo.{memory}
 use Rattle.demangle_cells.specs.Stored.{stored}
 use Rattle.demangle_cells.specs.View.{view}
@@ -11,6 +11,6 @@ invariant_of-self-in-Ok c = record {
   kept =
       memo_taking (stored c.args.self.now.store) (stored c.add.new.self) (memory c.args.self.now.memo) _ c.push.result
       c.args.stamp (record { numbered = c.args.numbered; id = c.args.id }) c.add.ensures.grown c.in-Ok.ensures.entries
-      c.requires.whole c.requires.positive c.requires.told refl c.push.ensures.items c.push.ensures.same refl refl
-      c.args.self.now.kept;
+      c.requires.whole c.requires.positive c.requires.told c.push.ensures.log c.push.ensures.stamps
+      c.push.ensures.same refl refl refl c.args.self.now.kept;
 }

@@ -1,28 +1,22 @@
-use Rattle.std.proofs.Common.{refl, inr}
+use Rattle.std.proofs.Common.{false}
 use Rattle.demangle_cells.specs.Memo.{memory}
 use Rattle.demangle_cells.specs.Stored.{stored}
 use Rattle.demangle_cells.specs.View.{view}
-use Rattle.demangle_cells.proofs.Memos.{recalls, refuses_alike}
+use Rattle.demangle_cells.proofs.Memos.{recalls}
 use Rattle.demangle_cells.proofs.arena.Arena.answered.Goals as goal
-
-pub returns-in-Refused-clause-answer : goal.returns-in-Refused-clause-answer
-unfolding view
-returns-in-Refused-clause-answer c =
-    λ F f. inr (
-      refuses_alike (stored c.args.self.now.store) (memory c.args.self.now.memo) c.args.text.bytes.now
-          (record { row = c.args.row; at = c.args.at; conversion = c.args.depth.conversion; before = c.stamp.result })
-          c.args.depth.levels c.in_ok-known.known c.in-Refused.error c.args.self.now.kept c.requires.whole
-          c.requires.bytes c.stamp.ensures
-          c.in_ok-known.ensures.among c.in_ok-known.ensures.key c.in_ok-known.ensures.levels c.in-Refused.is F f,
-      refl,
-    )
 
 pub returns-then-restore-clause-answer : goal.returns-then-restore-clause-answer
 unfolding view
 returns-then-restore-clause-answer c =
     recalls (stored c.args.self.now.store) (stored c.restore.new.self.store) (memory c.args.self.now.memo)
     (memory c.restore.new.self.memo) c.args.text.bytes.now
-    (record { row = c.args.row; at = c.args.at; conversion = c.args.depth.conversion; before = c.stamp.result })
+    (record {
+      row = c.args.row;
+      at = c.args.at;
+      conversion = c.args.depth.conversion;
+      before = c.stamp.result;
+      alike = false;
+    })
     c.args.depth.levels c.in_ok-known.known c.in-Found.part c.in-Found.behind c.args.self.now.kept
     c.restore.new.self.kept c.requires.whole (c.restore.ensures.whole c.if-restore.true) c.restore.ensures.log
     c.requires.bytes c.stamp.ensures c.in_ok-known.ensures.among

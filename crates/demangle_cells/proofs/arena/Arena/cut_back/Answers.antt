@@ -7,6 +7,7 @@ use Rattle.demangle_cells.proofs.arena.Arena.cut_back.Goals as goal
 pub invariant_of-self : goal.invariant_of-self
 invariant_of-self c = record {
   kept =
-      memo_cut (stored c.args.self.now.store) _ (memory c.args.self.now.memo) _ c.args.mark c.cut_back.ensures refl
-      c.truncate.ensures refl refl c.args.self.now.kept;
+      memo_cut (stored c.args.self.now.store) _ (memory c.args.self.now.memo) _ c.args.mark c.cut_back.ensures
+      c.truncate.ensures.log c.truncate.ensures.stamps c.truncate-2.ensures.log c.truncate-2.ensures.stamps refl refl
+      c.args.self.now.kept;
 }

@@ -10,4 +10,4 @@ invariant-loop-self l = record {
 }
 
 abbrev pub decreases-loop-self : goal.decreases-loop-self
-decreases-loop-self l = length (view l.self).entries - length (memory l.self.memo).stamps
+decreases-loop-self l = length (view l.self).entries - length (memory l.self.memo).components.stamps

@@ -1,4 +1,4 @@
-use Rattle.std.proofs.Common.{ap, sym, ◌∙◌, slice_get}
+use Rattle.std.proofs.Common.{ap, refl, sym, ◌∙◌, slice_get}
 use Rattle.demangle_cells.specs.Memo.{memory}
 use Rattle.demangle_cells.specs.Stored.{stored}
 use Rattle.demangle_cells.proofs.Memos.{memo_noting}
@@ -7,9 +7,7 @@ use Rattle.demangle_cells.proofs.arena.Arena.stamp_next.Goals as goal
 pub invariant_of-self-in-Some : goal.invariant_of-self-in-Some
 invariant_of-self-in-Some c = record {
   kept =
-      memo_noting (stored c.args.self.now.store) (memory c.args.self.now.memo) (memory c.note.new.self) c.note.result
-      c.in-Some.entry
+      memo_noting (stored c.args.self.now.store) (memory c.args.self.now.memo) _ c.note.result c.in-Some.entry
       (ap (slice_get (stored c.args.self.now.store).entries) (sym c.len.ensures) ∙ sym c.in-Some.ensures)
-      c.note.ensures.log c.note.ensures.stamps c.note.ensures.same_log c.note.ensures.same_stamps
-      c.note.ensures.known c.note.ensures.text c.args.self.now.kept;
+      c.note.ensures.log c.note.ensures.stamps c.note.ensures.same refl refl refl c.args.self.now.kept;
 }
