@@ -11,7 +11,7 @@ use Rattle.demangle_grammar.specs.Rule.{Row}
 use Rattle.demangle_core.specs.Table.{Table}
 use Rattle.demangle_text.specs.Kind.{Kind, Deep, kind, ends}
 use Rattle.demangle_text.specs.Spot.{Spot}
-use Rattle.demangle_outline.specs.Outline.{Agree, outline}
+use Rattle.demangle_outline.specs.Outline.{Agree}
 use Rattle.std.proofs.lemmas.List.{reverse-reverse}
 use Rattle.demangle_core.specs.Core.{Core}
 use Rattle.demangle_text.specs.declared.error.Error.{Error}
@@ -29,7 +29,7 @@ use Rattle.demangle_cells.specs.declared.asked.Key as of_key
 use Rattle.demangle_cells.specs.declared.text.Text.{Text}
 use Rattle.demangle_cells.specs.declared.text.Part as part
 use Rattle.demangle_cells.specs.Reads.{Answers, ReadsRow}
-use Rattle.demangle_cells.proofs.Lists.{take_all, map_last, append_none}
+use Rattle.demangle_cells.proofs.Lists.{take_all, append_none}
 use Rattle.demangle_cells.proofs.Levels.{found_with_more, refused_kind}
 use Rattle.demangle_outline.proofs.Levels.{more_levels}
 use Rattle.demangle_outline.proofs.Sees.{same_refusals}

@@ -5,7 +5,7 @@ use Rattle.std.proofs.lemmas.List.{reverse-reverse}
 use Rattle.demangle_core.specs.Core.{Core, Which}
 use Rattle.demangle_grammar.specs.Reading.{is_nestable}
 use Rattle.demangle_outline.specs.Outline.{outline}
-use Rattle.demangle_cells.specs.Ledger.{IsChain, stamp_at, Stamps, Stamped, NotesOnce}
+use Rattle.demangle_cells.specs.Ledger.{IsChain, stamp_at, Stamps, NotesOnce}
 use Rattle.demangle_cells.specs.Memo.{Outlined, seen}
 use Rattle.demangle_cells.specs.Stored.{View, Holds, table, entry, Grown, KeepsTrees, IsMark, IsCut}
 use Rattle.demangle_cells.specs.declared.entry.Entry as made
