@@ -1,5 +1,6 @@
-//! The rows through which all recursion goes, once so many were entered that what they answer is kept: each is recalled,
-//! or read and remembered. One function that is handed the reader would be called by each of the six that are tied.
+//! The rows through which all recursion goes, once so many were entered that what they answer is kept: each is
+//! recalled, or read and remembered. One function that is handed the reader would be called by each of the six that are
+//! tied.
 
 ghost use Rattle.std.specs.Prelude.{◌≤◌};
 ghost use Rattle.demangle_grammar.specs.Rule.{Row};
