@@ -69,6 +69,21 @@ impl Arena {
         self.memo.clear();
     }
 
+    /// A copy without memo and without room to spare, in which no indexes wait. `OutOfMemory` is the one refusal.
+    #[tactic(auto, using(crate::proofs::Memos::memos), unfolding(crate::specs::View::view))]
+    pub fn fitted(&self, alloc: Global) -> Result<Arena>
+        ensures cells { IfOk result (λ a. (view a).cells ≡ (view self.now).cells) }
+        ensures list { IfOk result (λ a. (view a).list ≡ (view self.now).list) }
+        ensures entries { IfOk result (λ a. (view a).entries ≡ (view self.now).entries) }
+        ensures waiting { IfOk result (λ a. (view a).waiting ≡ []) }
+        ensures refused { IfErr result (λ e. e ≡ OutOfMemory) }
+    {
+        Ok(Arena {
+            store: self.store.fitted(alloc)?,
+            memo: Memo::new(alloc),
+        })
+    }
+
     /// One tree more, and its index. Where the parts are no known indexes, or there are 2^30 cells, it is
     /// `OutOfMemory`.
     #[inline(always)]

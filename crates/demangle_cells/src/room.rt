@@ -15,7 +15,7 @@ pub(crate) struct Room<T> {
 }
 
 impl<T: Copy> Room<T> {
-    ghost use Rattle.std.specs.Prelude.{◌≡◌, ◌<◌, ◌++◌, [], ◌∷◌, take, IfErr, OnErr, OnOk, slice_get};
+    ghost use Rattle.std.specs.Prelude.{◌≡◌, ◌<◌, ◌++◌, [], ◌∷◌, take, IfErr, IfOk, OnErr, OnOk, slice_get};
     ghost use Rattle.demangle_text.specs.declared.error.Error.TheVariants.{OutOfMemory};
     ghost use Rattle.demangle_cells.specs.Held.{held};
 
@@ -107,6 +107,18 @@ impl<T: Copy> Room<T> {
             rest = next;
         }
         Ok(())
+    }
+
+    /// A copy without room to spare.
+    #[tactic(auto, unfolding(crate::specs::Held::held))]
+    pub fn fitted(&self, alloc: Global) -> Result<Room<T>>
+        ensures items { IfOk result (λ copy. held copy ≡ held self.now) }
+        ensures refused { IfErr result (λ e. e ≡ OutOfMemory) }
+    {
+        let mut room = Vec::with_capacity(alloc, self.count)?;
+        room.extend_from_slice(self.items())?;
+        let count = room.len();
+        Ok(Room { room, count })
     }
 
     /// No more than so many.

@@ -90,6 +90,25 @@ impl Store {
         self.waiting.truncate(0);
     }
 
+    /// A copy without room to spare, in which no indexes wait.
+    #[tactic(auto, unfolding(crate::specs::Stored::stored))]
+    pub fn fitted(&self, alloc: Global) -> Result<Store>
+        ensures cells { IfOk result (λ s. (stored s).cells ≡ (stored self.now).cells) }
+        ensures list { IfOk result (λ s. (stored s).list ≡ (stored self.now).list) }
+        ensures entries { IfOk result (λ s. (stored s).entries ≡ (stored self.now).entries) }
+        ensures waiting { IfOk result (λ s. (stored s).waiting ≡ []) }
+        ensures refused { IfErr result (λ e. e ≡ OutOfMemory) }
+    {
+        Ok(Store {
+            cells: self.cells.fitted(alloc)?,
+            list: self.list.fitted(alloc)?,
+            entries: self.entries.fitted(alloc)?,
+            numbered: self.numbered.fitted(alloc)?,
+            others: self.others.fitted(alloc)?,
+            waiting: Room::new(alloc),
+        })
+    }
+
     /// The index of the next cell.
     #[tactic(auto, unfolding(crate::specs::Stored::stored))]
     fn next(&self) -> u32
