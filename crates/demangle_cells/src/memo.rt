@@ -207,7 +207,7 @@ impl Memo {
     {
         match self.find(key, levels)?.outcome {
             Outcome::Refused(error) => Some(error),
-            Outcome::Found(_, _) => None,
+            _ => None,
         }
     }
 
