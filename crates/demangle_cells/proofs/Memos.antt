@@ -13,7 +13,8 @@ use Rattle.demangle_text.specs.Kind.{Kind, Deep, kind, ends}
 use Rattle.demangle_text.specs.Spot.{Spot}
 use Rattle.demangle_outline.specs.Outline.{Agree}
 use Rattle.std.proofs.lemmas.List.{reverse-reverse}
-use Rattle.demangle_core.specs.Core.{Core, end}
+use Rattle.demangle_core.specs.Core.{Core}
+use Rattle.demangle_core.specs.Core as core
 use Rattle.demangle_text.specs.declared.error.Error.{Error}
 use Rattle.demangle_cells.specs.Entries.{ids_of}
 use Rattle.demangle_cells.specs.Ledger.{IsChain, stamp_at, Stamps, Stamped, NotesOnce}
@@ -303,19 +304,19 @@ refused_alike levels l row conv p t u k le n w r =
 
 -- it ends alike with any components that agree, and with more levels
 ends_alike : (levels l : ℕ) (row : Row) (conv : Bool) (p q : Spot) (t u : Table) → levels ≤ l → Agree p.left t u
-    → ended (cread levels row conv (here p t) []) ≡ Found end (here q [])
-    → ended (cread l row conv (here p u) []) ≡ Found end (here q [])
+    → ended (cread levels row conv (here p t) []) ≡ Found core.end (here q [])
+    → ended (cread l row conv (here p u) []) ≡ Found core.end (here q [])
 ends_alike levels l row conv p q t u le w e = by (cread levels row conv (here p t) []) refl e
   where
-    no : (k : Kind) → Refused k ≡ Found end (here q []) → ⊥
+    no : (k : Kind) → Refused k ≡ Found core.end (here q []) → ⊥
     no k d = grind (arith, d)
 
-    by : (x : Reply) → cread levels row conv (here p t) [] ≡ x → ended x ≡ Found end (here q [])
-        → ended (cread l row conv (here p u) []) ≡ Found end (here q [])
+    by : (x : Reply) → cread levels row conv (here p t) [] ≡ x → ended x ≡ Found core.end (here q [])
+        → ended (cread l row conv (here p u) []) ≡ Found core.end (here q [])
     by (Found x h) r d =
         let f = same_ends levels row conv p t u x h w r in
         ap ended (found_with_more levels l row conv (here p u) f.1 f.0 le f.2)
-        ∙ (ap (λ s. Found end (here s [])) f.3 ∙ d)
+        ∙ (ap (λ s. Found core.end (here s [])) f.3 ∙ d)
     by (Refused k) r d = absurd (no k d)
 
 -- the stamp of what a row sees of so many components
@@ -391,10 +392,10 @@ end_kept v m text key levels stop h c r t b = ∥∥₁_map h (λ x. by x b)
     ends : (l : ℕ) → levels ≤ l → (F : ℕ → Core) → Holds F v → (s : Table)
         → Agree (drop key.at text.bytes.now) (table F v) s
         → ended (cread l (row_of key.row) key.conversion (here (spot_in m.text key.at) s) [])
-        ≡ Found end (here (spot_in m.text stop) [])
+        ≡ Found core.end (here (spot_in m.text stop) [])
     ends l le F f s w =
         subst (λ tx. ended (cread l (row_of key.row) key.conversion (here (spot_in tx key.at) s) [])
-        ≡ Found end (here (spot_in tx stop) [])) (sym t)
+        ≡ Found core.end (here (spot_in tx stop) [])) (sym t)
         (ends_alike levels l (row_of key.row) key.conversion (spot_in text.bytes.now key.at)
         (spot_in text.bytes.now stop) (table F v) s le w (r F f).0)
 
@@ -509,12 +510,12 @@ end_reads : (a : View) (m : Memory) (text : List ℕ) (key : of_key.Key) (levels
     → IsBefore (drop key.at text) m.outlines (length a.entries) key.before → IsAmong x m.known → x.key ≡ key
     → x.levels ≤ levels → x.outcome ≡ of_outcome.Ended stop → (F : ℕ → Core) → Holds F a
     → ended (cread levels (row_of key.row) key.conversion (here (spot_in text key.at) (table F a)) [])
-    ≡ Found end (here (spot_in text stop) [])
+    ≡ Found core.end (here (spot_in text stop) [])
 end_reads a m text key levels x stop i c t b w e le o F f =
     subst (λ q. ended (cread levels (row_of q.row) q.conversion (here (spot_in text q.at) (table F a)) [])
-    ≡ Found end (here (spot_in text stop) [])) e
+    ≡ Found core.end (here (spot_in text stop) [])) e
     (subst (λ tx. ended (cread levels (row_of x.key.row) x.key.conversion (here (spot_in tx x.key.at) (table F a)) [])
-    ≡ Found end (here (spot_in tx stop) [])) t
+    ≡ Found core.end (here (spot_in tx stop) [])) t
     (told.1.1 levels le F f (table F a)
     (subst (λ tx. Sees (drop x.key.at tx) told.0 (table F a)) (sym t)
     (subst (λ q. Sees (drop q.at text) told.0 (table F a)) (sym e) (sees b)))))
@@ -533,7 +534,7 @@ pub ends_so : (a : View) (m : Memory) (text : List ℕ) (key : of_key.Key) (leve
     → IsBefore (drop key.at text) m.outlines (length a.entries) key.before → IsAmong x m.known → x.key ≡ key
     → x.levels ≤ levels → x.outcome ≡ of_outcome.Ended stop → (F : ℕ → Core) → Holds F a
     → ended (cread levels (row_of key.row) key.conversion (here (spot_in text key.at) (table F a)) [])
-    ≡ Found end (here (spot_in text stop) [])
+    ≡ Found core.end (here (spot_in text stop) [])
 ends_so a m text key levels x stop h c t b w e le o F f =
     ∥∥₁_elim h (reply_set _ _) (λ i. end_reads a m text key levels x stop i c t b w e le o F f)
 

@@ -382,7 +382,7 @@ fn type_param<B: Below>(
 /// alone, which is then the operator's own, even if it can't be read. Where a second list follows, the first is the
 /// parameter's. The first is read ahead and given back. An inner failure says that what follows belongs to the
 /// parameter.
-#[tactic(auto, using(demangle_cells::proofs::Grows::grows, demangle_cells::proofs::Grows::cuts), unfolding(demangle_grammar::specs::Code::trial_part))]
+#[tactic(auto, using(demangle_cells::proofs::Grows::grows, crate::proofs::Ahead::tried_end), unfolding(demangle_grammar::specs::Code::trial_part))]
 fn stands_alone<B: Below>(
     below: B,
     arena: &mut Arena,
@@ -415,6 +415,7 @@ fn stands_alone<B: Below>(
 
 /// Where arguments end that are read ahead; they are given back. Once what rows answer is kept, it is recalled, or read
 /// and remembered.
+#[tactic(auto, using(demangle_cells::proofs::Grows::grows, crate::proofs::Ahead::ends_here))]
 fn arguments_ahead<B: Below>(
     below: B,
     arena: &mut Arena,
@@ -440,6 +441,7 @@ fn arguments_ahead<B: Below>(
 }
 
 /// Where arguments end that are read and given back.
+#[tactic(auto, using(demangle_cells::proofs::Grows::grows, demangle_cells::proofs::Grows::cuts))]
 fn arguments_tried<B: Below>(
     below: B,
     arena: &mut Arena,
