@@ -211,16 +211,33 @@ impl Memo {
         }
     }
 
+    /// What comes behind something more that is known, where this was the last of its place. It isn't this where it has
+    /// the same key: what is kept later of a key is kept for fewer levels.
+    fn link_behind(&self, last: u32, key: Key) -> u32 {
+        if last == 0 {
+            return 0;
+        }
+        match self.known.get(last as usize - 1) {
+            Some(known) if known.key == key => self
+                .links
+                .get(last as usize - 1)
+                .copied()
+                .unwrap_or(0),
+            _ => last,
+        }
+    }
+
     /// Gives what is known its place. Where there is none it is never asked for.
     fn link(&mut self, key: Key, number: u32) -> Result<()>
         ensures { memory self.new ≡ memory self.old }
     {
         let place = Self::place_of(key, self.heads.len());
+        let last = self.heads.get(place).copied().unwrap_or(0);
+        let behind = self.link_behind(last, key);
         match self.heads.get_mut(place) {
             Some(head) => {
-                let last = *head;
                 *head = number;
-                self.links.push(last)?;
+                self.links.push(behind)?;
                 Ok(())
             }
             None => Err(Error::OutOfMemory),

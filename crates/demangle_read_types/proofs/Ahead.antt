@@ -29,17 +29,16 @@ ends_here row levels conversion t at result old new h = λ F f. by F result (h F
     by F (Err e) (inl m) = inl m
     by F (Err e) (inr d) = inr (subst (λ u. reply u ≡ Refused (kind e)) (sym d.1) d.0, refl)
 
-spot_or : Spot → Reply → Spot
+abbrev spot_or : Spot → Reply → Spot
 spot_or p (Found x h) = h.spot
 spot_or p (Refused k) = p
+
+spot_is : (m p : Spot) → Found core.end (here m []) ≡ Found core.end (here p []) → m ≡ p
+spot_is m p e = ap (spot_or p) e
 
 -- the trial looks at nothing else of them
 pub tried_end : (x : Reply) (p : Spot) (f : Unit {0} → Out) → ended x ≡ Found core.end (here p [])
     → tried x f ≡ (if next_is (Class.these (codes "I")) p.left then No false (Unread Text) else f tt)
 tried_end (Found t m) p f e =
-    ap (λ q. if next_is (Class.these (codes "I")) q.left then No false (Unread Text) else f tt) (spot_is e)
-  where
-    spot_is : Found core.end (here m.spot []) ≡ Found core.end (here p []) → m.spot ≡ p
-    unfolding spot_or
-    spot_is e = ap (spot_or p) e
+    ap (λ q. if next_is (Class.these (codes "I")) q.left then No false (Unread Text) else f tt) (spot_is m.spot p e)
 tried_end (Refused k) p f e = absurd (grind (arith, e))
