@@ -1,5 +1,5 @@
 -- Arguments that are read ahead: only where they end is told.
-use Rattle.std.proofs.Common.{◌≡◌, refl, ap, sym, subst, ℕ, Bool, [], inl, inr, Result, Ok, Err, arith, codes}
+use Rattle.std.proofs.Common.{◌≡◌, refl, ap, sym, subst, ℕ, Bool, false, [], inl, inr, Result, Ok, Err, arith, codes}
 use Rattle.std.specs.Prelude.{if◌then◌else◌}
 use Rattle.demangle_text.specs.Kind.{Kind, Unread, Text, kind}
 use Rattle.demangle_text.specs.Spot.{Spot}
