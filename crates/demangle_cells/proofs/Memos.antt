@@ -14,7 +14,9 @@ use Rattle.demangle_text.specs.Spot.{Spot}
 use Rattle.demangle_outline.specs.Outline.{Agree}
 use Rattle.std.proofs.lemmas.List.{reverse-reverse}
 use Rattle.demangle_core.specs.Core.{Core}
+use Rattle.demangle_core.specs.Core as core
 use Rattle.demangle_text.specs.declared.error.Error.{Error}
+use Rattle.demangle_cells.specs.Entries.{ids_of}
 use Rattle.demangle_cells.specs.Ledger.{IsChain, stamp_at, Stamps, Stamped, NotesOnce}
 use Rattle.demangle_cells.specs.Memo.{IsKnownAs, IsKnown, IsMemo, Memory, IsAmong, Outlined, Sees, seen, spot_in}
 use Rattle.demangle_cells.specs.Memo.{row_of}
@@ -28,15 +30,15 @@ use Rattle.demangle_cells.specs.declared.asked.Outcome.TheVariants as of_outcome
 use Rattle.demangle_cells.specs.declared.asked.Key as of_key
 use Rattle.demangle_cells.specs.declared.text.Text.{Text}
 use Rattle.demangle_cells.specs.declared.text.Part as part
-use Rattle.demangle_cells.specs.Reads.{Answers, ReadsRow}
+use Rattle.demangle_cells.specs.Reads.{Answers, EndsRow, ReadsRow, ended}
 use Rattle.demangle_cells.proofs.Lists.{take_all, append_none}
 use Rattle.demangle_cells.proofs.Levels.{found_with_more, refused_kind}
 use Rattle.demangle_outline.proofs.Levels.{more_levels}
-use Rattle.demangle_outline.proofs.Sees.{same_refusals}
+use Rattle.demangle_outline.proofs.Sees.{same_ends, same_refusals}
 use Rattle.demangle_cells.proofs.Outlines.{outlined_none, outlined_grown, outlined_kept, outlined_cut, outlined_once}
 use Rattle.demangle_cells.proofs.Outlines.{outline_of, outline_chain, outline_seen}
 use Rattle.demangle_cells.proofs.Sets.{reply_set}
-use Rattle.demangle_cells.proofs.Grows.{cut_holds}
+use Rattle.demangle_cells.proofs.Grows.{cut_holds, grown_self}
 use Rattle.demangle_cells.proofs.Stamps.{chain_on, chain_same, stamped_none, stamped_cut, stamped_grown, stamped_noted}
 use Rattle.demangle_cells.proofs.Stamps.{stamped_more, chain_at, get_end, same_some, grown_length}
 
@@ -55,12 +57,15 @@ known_on bytes log more outs less a b x (of_outcome.Found p behind) g h =
     (h.0, h.1, (chain_on log more _ _ h.2.0, chain_on log more _ _ h.2.1, λ l k F f. h.2.2 l k F (g F f)))
 known_on bytes log more outs less a b x (of_outcome.Refused e) g h =
     (h.0, (chain_on outs less _ _ h.1.0, λ l k F f t w. h.1.1 l k F (g F f) t w))
+known_on bytes log more outs less a b x (of_outcome.Ended stop) g h =
+    (h.0, (chain_on outs less _ _ h.1.0, λ l k F f t w. h.1.1 l k F (g F f) t w))
 
 known_of : (bytes : List ℕ) (log outs : List stamp.Stamp) (a b : View) (x : known.Known) (o : outcome.Outcome)
     → ((F : ℕ → Core) → Holds F b → Holds F a) → IsKnownAs bytes log outs a x o → IsKnownAs bytes log outs b x o
 known_of bytes log outs a b x (of_outcome.Found p behind) g h =
     (h.0, h.1, (h.2.0, h.2.1, λ l k F f. h.2.2 l k F (g F f)))
 known_of bytes log outs a b x (of_outcome.Refused e) g h = (h.0, (h.1.0, λ l k F f t w. h.1.1 l k F (g F f) t w))
+known_of bytes log outs a b x (of_outcome.Ended stop) g h = (h.0, (h.1.0, λ l k F f t w. h.1.1 l k F (g F f) t w))
 
 -- the same in a memo whose logs are no shorter
 known_in : (a b : View) (m n : Memory) (more less : List stamp.Stamp) → ((F : ℕ → Core) → Holds F b → Holds F a)
@@ -297,9 +302,37 @@ refused_alike levels l row conv p t u k le n w r =
     no : Refused k ≡ Refused Deep → ⊥
     no d = not_deep k n (refused_kind d)
 
+-- it ends alike with any components that agree, and with more levels
+ends_alike : (levels l : ℕ) (row : Row) (conv : Bool) (p q : Spot) (t u : Table) → levels ≤ l → Agree p.left t u
+    → ended (cread levels row conv (here p t) []) ≡ Found core.end (here q [])
+    → ended (cread l row conv (here p u) []) ≡ Found core.end (here q [])
+ends_alike levels l row conv p q t u le w e = by (cread levels row conv (here p t) []) refl e
+  where
+    no : (k : Kind) → Refused k ≡ Found core.end (here q []) → ⊥
+    no k d = grind (arith, d)
+
+    by : (x : Reply) → cread levels row conv (here p t) [] ≡ x → ended x ≡ Found core.end (here q [])
+        → ended (cread l row conv (here p u) []) ≡ Found core.end (here q [])
+    by (Found x h) r d =
+        let f = same_ends levels row conv p t u x h w r in
+        ap ended (found_with_more levels l row conv (here p u) f.1 f.0 le f.2)
+        ∙ (ap (λ s. Found core.end (here s [])) f.3 ∙ d)
+    by (Refused k) r d = absurd (no k d)
+
 -- the stamp of what a row sees of so many components
 abbrev pub IsBefore : List ℕ → Stamps → (count stamp : ℕ) → Type 0
 IsBefore left l count s = ((s ≡ 0) × AllOf (λ b. not (b == 83)) left) ⊎ (s ≡ stamp_at count l.stamps)
+
+-- tables of which a reading sees what it saw of these components agree with them
+agree_seen : (a v : View) (m : Memory) (k : mark.Mark) (left : List ℕ) (F : ℕ → Core) → Holds F v → (s : Table)
+    → (x : IsMemo v m) → length m.outlines.stamps ≡ length v.entries → IsMark a k → Grown a v
+    → Sees left (reverse (take k.entries x.outlined.shapes)) s → Agree left (table F a) s
+agree_seen a v m k left F f s x c i g (inl w) = inl w
+agree_seen a v m k left F f s x c i g (inr w) =
+    inr (
+    outline_of a v m.outlines k F f x.outlined c i g
+    ∙ (ap (map seen) (sym (reverse-reverse (take k.entries x.outlined.shapes))) ∙ w)
+    )
 
 pub refusal_kept : (a v : View) (m : Memory) (k : mark.Mark) (text : Text) (key : of_key.Key) (levels : ℕ) (e : Error)
     → ∥ IsMemo v m ∥₁ → length m.outlines.stamps ≡ length v.entries → IsMark a k → Grown a v → ends (kind e) ≡ false
@@ -320,12 +353,9 @@ refusal_kept a v m k text key levels e h c i g u r t b = ∥∥₁_map h (λ x. 
     agrees : (x : IsMemo v m) (F : ℕ → Core) → Holds F v → (s : Table)
         → Sees (drop key.at m.text) (reverse (take k.entries x.outlined.shapes)) s
         → Agree (drop key.at text.bytes.now) (table F a) s
-    agrees x F f s (inl w) = inl (subst (λ tx. AllOf (λ b. not (b == 83)) (drop key.at tx)) t w)
-    agrees x F f s (inr w) =
-        inr (
-        outline_of a v m.outlines k F f x.outlined c i g
-        ∙ (ap (map seen) (sym (reverse-reverse (take k.entries x.outlined.shapes))) ∙ w)
-        )
+    agrees x F f s w =
+        agree_seen a v m k (drop key.at text.bytes.now) F f s x c i g
+        (subst (λ tx. Sees (drop key.at tx) (reverse (take k.entries x.outlined.shapes)) s) t w)
 
     by : IsMemo v m → IsBefore (drop key.at text.bytes.now) m.outlines k.entries key.before
         → IsKnown m v (record { key = key; levels = levels; outcome = of_outcome.Refused e })
@@ -335,6 +365,55 @@ refusal_kept a v m k text key levels e h c i g u r t b = ∥∥₁_map h (λ x. 
       (
         outline_chain a v m.outlines k key.before x.outlined c i g q,
         λ l le F f s w. refused l le F f s (agrees x F f s w),
+      ),
+    )
+
+-- how many components there are
+abbrev mark_of : View → mark.Mark
+mark_of v =
+    record {
+      entries = length v.entries;
+      numbered = length (ids_of true v.entries);
+      others = length (ids_of false v.entries);
+    }
+
+marked : (v : View) → IsMark v (mark_of v)
+marked v = record { entries = refl; numbered = refl; others = refl }
+
+-- where it ends
+pub end_kept : (v : View) (m : Memory) (text : Text) (key : of_key.Key) (levels stop : ℕ)
+    → ∥ IsMemo v m ∥₁ → length m.outlines.stamps ≡ length v.entries
+    → EndsRow (row_of key.row) levels key.conversion text key.at (Ok stop) v v
+    → m.text ≡ text.bytes.now → IsBefore (drop key.at text.bytes.now) m.outlines (length v.entries) key.before
+    → ∥ IsKnown m v (record { key = key; levels = levels; outcome = of_outcome.Ended stop }) ∥₁
+unfolding table
+end_kept v m text key levels stop h c r t b = ∥∥₁_map h (λ x. by x b)
+  where
+    ends : (l : ℕ) → levels ≤ l → (F : ℕ → Core) → Holds F v → (s : Table)
+        → Agree (drop key.at text.bytes.now) (table F v) s
+        → ended (cread l (row_of key.row) key.conversion (here (spot_in m.text key.at) s) [])
+        ≡ Found core.end (here (spot_in m.text stop) [])
+    ends l le F f s w =
+        subst (λ tx. ended (cread l (row_of key.row) key.conversion (here (spot_in tx key.at) s) [])
+        ≡ Found core.end (here (spot_in tx stop) [])) (sym t)
+        (ends_alike levels l (row_of key.row) key.conversion (spot_in text.bytes.now key.at)
+        (spot_in text.bytes.now stop) (table F v) s le w (r F f).0)
+
+    agrees : (x : IsMemo v m) (F : ℕ → Core) → Holds F v → (s : Table)
+        → Sees (drop key.at m.text) (reverse (take (length v.entries) x.outlined.shapes)) s
+        → Agree (drop key.at text.bytes.now) (table F v) s
+    agrees x F f s w =
+        agree_seen v v m (mark_of v) (drop key.at text.bytes.now) F f s x c (marked v) (grown_self v)
+        (subst (λ tx. Sees (drop key.at tx) (reverse (take (length v.entries) x.outlined.shapes)) s) t w)
+
+    by : IsMemo v m → IsBefore (drop key.at text.bytes.now) m.outlines (length v.entries) key.before
+        → IsKnown m v (record { key = key; levels = levels; outcome = of_outcome.Ended stop })
+    by x (inl q) = ([], (q.0, λ l le F f s w. ends l le F f s (inl q.1)))
+    by x (inr q) = (
+      reverse (take (length v.entries) x.outlined.shapes),
+      (
+        outline_chain v v m.outlines (mark_of v) key.before x.outlined c (marked v) (grown_self v) q,
+        λ l le F f s w. ends l le F f s (agrees x F f s w),
       ),
     )
 
@@ -424,5 +503,39 @@ pub refuses : (a : View) (m : Memory) (text : List ℕ) (key : of_key.Key) (leve
     → cread levels (row_of key.row) key.conversion (here (spot_in text key.at) (table F a)) [] ≡ Refused (kind error)
 refuses a m text key levels x error h c t b w e le o F f =
     ∥∥₁_elim h (reply_set _ _) (λ i. refusal_reads a m text key levels x error i c t b w e le o F f)
+
+-- where it ends
+end_reads : (a : View) (m : Memory) (text : List ℕ) (key : of_key.Key) (levels : ℕ) (x : known.Known)
+    (stop : ℕ) → IsMemo a m → length m.outlines.stamps ≡ length a.entries → m.text ≡ text
+    → IsBefore (drop key.at text) m.outlines (length a.entries) key.before → IsAmong x m.known → x.key ≡ key
+    → x.levels ≤ levels → x.outcome ≡ of_outcome.Ended stop → (F : ℕ → Core) → Holds F a
+    → ended (cread levels (row_of key.row) key.conversion (here (spot_in text key.at) (table F a)) [])
+    ≡ Found core.end (here (spot_in text stop) [])
+end_reads a m text key levels x stop i c t b w e le o F f =
+    subst (λ q. ended (cread levels (row_of q.row) q.conversion (here (spot_in text q.at) (table F a)) [])
+    ≡ Found core.end (here (spot_in text stop) [])) e
+    (subst (λ tx. ended (cread levels (row_of x.key.row) x.key.conversion (here (spot_in tx x.key.at) (table F a)) [])
+    ≡ Found core.end (here (spot_in tx stop) [])) t
+    (told.1.1 levels le F f (table F a)
+    (subst (λ tx. Sees (drop x.key.at tx) told.0 (table F a)) (sym t)
+    (subst (λ q. Sees (drop q.at text) told.0 (table F a)) (sym e) (sees b)))))
+  where
+    told : IsKnownAs m.text m.components.log m.outlines.log a x (of_outcome.Ended stop)
+    told = subst (IsKnownAs m.text m.components.log m.outlines.log a x) o (i.known x w)
+
+    sees : IsBefore (drop key.at text) m.outlines (length a.entries) key.before
+        → Sees (drop key.at text) told.0 (table F a)
+    sees (inl q) = inl q.1
+    sees (inr q) = inr (outline_seen a m.outlines F f told.0 x.key.before i.outlined c
+        (ap (λ y. y.before) e ∙ q) told.1.0)
+
+pub ends_so : (a : View) (m : Memory) (text : List ℕ) (key : of_key.Key) (levels : ℕ) (x : known.Known) (stop : ℕ)
+    → ∥ IsMemo a m ∥₁ → length m.outlines.stamps ≡ length a.entries → m.text ≡ text
+    → IsBefore (drop key.at text) m.outlines (length a.entries) key.before → IsAmong x m.known → x.key ≡ key
+    → x.levels ≤ levels → x.outcome ≡ of_outcome.Ended stop → (F : ℕ → Core) → Holds F a
+    → ended (cread levels (row_of key.row) key.conversion (here (spot_in text key.at) (table F a)) [])
+    ≡ Found core.end (here (spot_in text stop) [])
+ends_so a m text key levels x stop h c t b w e le o F f =
+    ∥∥₁_elim h (reply_set _ _) (λ i. end_reads a m text key levels x stop i c t b w e le o F f)
 
 pub ruleset memos = (memo_none, memo_grown, memo_kept)

@@ -2,7 +2,7 @@
 use Rattle.std.specs.Prelude.{◌≡◌, ◌⊎◌, ℕ, ◌≤◌, Bool, List, [], map, take, drop, reverse, length, Some, slice_get}
 use Rattle.std.specs.Prelude.{◌==◌, not, nat_eq}
 use Rattle.demangle_text.specs.Spot.{Spot}
-use Rattle.demangle_core.specs.Core.{Core, Which}
+use Rattle.demangle_core.specs.Core.{Core, Which, end}
 use Rattle.demangle_core.specs.Table.{Table}
 use Rattle.demangle_text.specs.Kind.{kind}
 use Rattle.demangle_outline.specs.Outline.{outline}
@@ -11,6 +11,7 @@ use Rattle.demangle_grammar.specs.Rule.{Row}
 use Rattle.demangle_grammar.specs.Code.{here, Found, Refused, cread}
 use Rattle.demangle_cells.specs.Held.{held}
 use Rattle.demangle_cells.specs.Ledger.{Stamps, ledger, IsChain, Stamped}
+use Rattle.demangle_cells.specs.Reads.{ended}
 use Rattle.demangle_cells.specs.Stored.{View, Holds, entry, which_of}
 use Rattle.demangle_cells.specs.declared.memo.Memo as memo
 use Rattle.demangle_cells.specs.declared.entry.Entry as made
@@ -28,6 +29,7 @@ row_of of_row.TemplateArg = Row.template_arg
 row_of of_row.Name = Row.name
 row_of of_row.Encoding = Row.encoding
 row_of of_row.MangledName = Row.mangled_name
+row_of of_row.TemplateArgs = Row.template_args
 
 -- what a memo holds
 pub record Memory : Type 0 where
@@ -68,7 +70,7 @@ abbrev pub spot_in : List ℕ → ℕ → Spot
 spot_in bytes at = record { index = at; left = drop at bytes }
 
 -- Read again in that text, with as many levels or more, a row answers the same: what was found with these components
--- before it; a refusal with any of which a reading sees the same.
+-- before it; a refusal, and where it ends, with any of which a reading sees the same.
 abbrev pub IsKnownAs : List ℕ → (components outlines : List stamp.Stamp) → View → known.Known → outcome.Outcome
     → Type 0
 IsKnownAs bytes components outlines v x (of_outcome.Found p behind) =
@@ -81,6 +83,11 @@ IsKnownAs bytes components outlines v x (of_outcome.Refused e) =
     (shapes : List made.Entry) × (IsChain outlines x.key.before shapes
     × ((levels : ℕ) → x.levels ≤ levels → (F : ℕ → Core) → Holds F v → (t : Table) → Sees (drop x.key.at bytes) shapes t
     → cread levels (row_of x.key.row) x.key.conversion (here (spot_in bytes x.key.at) t) [] ≡ Refused (kind e)))
+IsKnownAs bytes components outlines v x (of_outcome.Ended stop) =
+    (shapes : List made.Entry) × (IsChain outlines x.key.before shapes
+    × ((levels : ℕ) → x.levels ≤ levels → (F : ℕ → Core) → Holds F v → (t : Table) → Sees (drop x.key.at bytes) shapes t
+    → ended (cread levels (row_of x.key.row) x.key.conversion (here (spot_in bytes x.key.at) t) [])
+    ≡ Found end (here (spot_in bytes stop) [])))
 
 abbrev pub IsKnown : (m : Memory) → View → known.Known → Type 0
 IsKnown m v x = IsKnownAs m.text m.components.log m.outlines.log v x x.outcome

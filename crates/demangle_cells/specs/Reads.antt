@@ -34,6 +34,22 @@ abbrev pub ReadsRow : Row → (levels : ℕ) → Bool → Text → (at : ℕ) �
 ReadsRow row levels conversion text at result old new =
     Reads text at result old new (λ s. cread levels row conversion s [])
 
+-- ---- where a row ends that is read ahead; the components stay as they were
+-- of a reply where it ends alone
+abbrev pub ended : Reply → Reply
+ended (Found x s) = Found core.end (here s.spot [])
+ended (Refused k) = Refused k
+
+abbrev pub AnswersEnd : (ℕ → Core) → Text → Result ℕ Error → (old new : View) → Reply → Type 0
+AnswersEnd F text (Ok stop) old new reply =
+    (ended reply ≡ Found core.end (here (spot_at text stop) [])) × (table F new ≡ table F old)
+AnswersEnd F text (Err e) old new reply = (e ≡ OutOfMemory) ⊎ ((reply ≡ Refused (kind e)) × (table F new ≡ table F old))
+
+abbrev pub EndsRow : Row → (levels : ℕ) → Bool → Text → (at : ℕ) → Result ℕ Error → (old new : View) → Type 0
+EndsRow row levels conversion text at result old new =
+    (F : ℕ → Core) → Holds F new → AnswersEnd F text result old new
+    (cread levels row conversion (here (spot_at text at) (table F old)) [])
+
 -- ---- an alternative with a mark in it: the inner failure is one before the mark, so that the next one is to be tried
 abbrev pub AnswersTry : (ℕ → Core) → Text → Result Answer Error → (old new : View) → Out → Type 0
 AnswersTry F text (Ok (Ok x)) old new out = out ≡ Yes (here (spot_at text x.end) (table F new)) (F x.id ∷ [])

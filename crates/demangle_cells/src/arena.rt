@@ -39,7 +39,7 @@ impl Arena {
     ghost use Rattle.demangle_cells.specs.Held.{held};
     ghost use Rattle.demangle_cells.specs.Ledger.{stamp_at};
     ghost use Rattle.demangle_cells.specs.Memo.{row_of};
-    ghost use Rattle.demangle_cells.specs.Reads.{Gathers, ReadsRow};
+    ghost use Rattle.demangle_cells.specs.Reads.{EndsRow, Gathers, ReadsRow};
     ghost use Rattle.demangle_grammar.specs.Fits.{AllOf};
     ghost use Rattle.std.specs.Prelude.{◌==◌, Err, Ok, not};
     ghost use Rattle.demangle_cells.specs.View.{FitsMark, Grown, Holds, IsCut, IsMark, KeepsTrees, View, table, view};
@@ -488,7 +488,6 @@ impl Arena {
         };
         let known = self.memo.find(key, depth.levels)?;
         match known.outcome {
-            Outcome::Refused(_) => None,
             Outcome::Found(part, behind) => {
                 if self.restore(behind) {
                     Some(Ok(part))
@@ -496,6 +495,7 @@ impl Arena {
                     Some(Err(Error::OutOfMemory))
                 }
             }
+            _ => None,
         }
     }
 
@@ -587,6 +587,96 @@ impl Arena {
             key,
             levels: depth.levels,
             outcome: Outcome::Refused(error),
+        });
+    }
+
+    /// Where a row ends, or why it is refused, as it was before at this place of this text, with no more levels, and with
+    /// any components of which a reading sees the same. None where that isn't kept. To be asked once rows are late.
+    #[inline(never)]
+    #[tactic(auto, using(crate::proofs::Memos::memos), unfolding(crate::specs::View::view))]
+    pub fn recall_end(
+        &mut self,
+        row: RowName,
+        depth: Depth,
+        text: Text<'_>,
+        at: u32,
+    ) -> Option<Result<u32>>
+        ensures same { view self.new ≡ view self.old }
+        ensures end { IfSome result (λ end. EndsRow (row_of row) depth.levels depth.conversion text.entry at end
+            (view self.new) (view self.new)) }
+    {
+        if self.is_ready(text.bytes) {
+            self.ended(row, depth, text, at)
+        } else {
+            None
+        }
+    }
+
+    /// Where a row ends with these components, or why it is refused.
+    #[tactic(auto, unfolding(crate::specs::View::view))]
+    fn ended(&self, row: RowName, depth: Depth, text: Text<'_>, at: u32) -> Option<Result<u32>>
+        requires bytes { (memory self.now.memo).text ≡ text.bytes.now }
+        requires whole { length (memory self.now.memo).outlines.stamps ≡ length (view self.now).entries }
+        ensures { IfSome result (λ end. EndsRow (row_of row) depth.levels depth.conversion text.entry at end
+            (view self.now) (view self.now)) }
+    {
+        let key = Key {
+            row,
+            at,
+            conversion: depth.conversion,
+            before: self.outline_before(self.store.count(), text.rest(at)),
+            alike: true,
+        };
+        match self.memo.find(key, depth.levels)?.outcome {
+            Outcome::Ended(end) => Some(Ok(end)),
+            Outcome::Refused(error) => Some(Err(error)),
+            Outcome::Found(_, _) => None,
+        }
+    }
+
+    /// Keeps where a row ends that was read ahead with these components, or why it is refused. To be told once rows are
+    /// late.
+    #[inline(never)]
+    #[tactic(auto, using(crate::proofs::Memos::memos), unfolding(crate::specs::View::view))]
+    pub fn remember_end(
+        &mut self,
+        row: RowName,
+        depth: Depth,
+        text: Text<'_>,
+        at: u32,
+        end: &Result<u32>,
+    )
+        requires { EndsRow (row_of row) depth.levels depth.conversion text at end.now (view self.old) (view self.old) }
+        ensures { view self.new ≡ view self.old }
+    {
+        if self.is_ready(text.bytes) {
+            match end {
+                Ok(end) => self.keep_end(row, depth, text, at, *end),
+                Err(error) => self.keep_refusal(row, self.mark(), depth, text, at, *error),
+            }
+        }
+    }
+
+    /// Keeps where a row ends.
+    #[tactic(auto, using(crate::proofs::Memos::memos), unfolding(crate::specs::View::view))]
+    fn keep_end(&mut self, row: RowName, depth: Depth, text: Text<'_>, at: u32, end: u32)
+        requires bytes { (memory self.old.memo).text ≡ text.bytes.now }
+        requires whole { length (memory self.old.memo).outlines.stamps ≡ length (view self.old).entries }
+        requires read { EndsRow (row_of row) depth.levels depth.conversion text at (Ok end)
+            (view self.old) (view self.old) }
+        ensures { view self.new ≡ view self.old }
+    {
+        let key = Key {
+            row,
+            at,
+            conversion: depth.conversion,
+            before: self.outline_before(self.store.count(), text.rest(at)),
+            alike: true,
+        };
+        self.memo.put(Known {
+            key,
+            levels: depth.levels,
+            outcome: Outcome::Ended(end),
         });
     }
 }

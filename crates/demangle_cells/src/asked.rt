@@ -18,11 +18,13 @@ pub enum RowName {
     Encoding,
     /// ABI section 5.1.2, `<mangled-name>`.
     MangledName,
+    /// ABI section 5.1.2, `<template-args>`, read ahead.
+    TemplateArgs,
 }
 
 /// What was asked: the row, where in the text, whether a conversion operator's type is being read, and the stamp of the
-/// components before, or, where it is alike for all of which a reading sees the same, the stamp of their outline. A
-/// refusal behind which no `S` is left in the text holds for any components; it is kept under the stamp of none.
+/// components before, or, where it is alike for all of which a reading sees the same, the stamp of their outline. What is
+/// alike and behind which no `S` is left in the text holds for any components; it is kept under the stamp of none.
 #[derive(Clone, Copy, PartialEq, Eq)]
 pub(crate) struct Key {
     pub row: RowName,
@@ -39,6 +41,8 @@ pub(crate) enum Outcome {
     Found(Part, u32),
     /// Nothing, and why.
     Refused(Error),
+    /// Something up to this place.
+    Ended(u32),
 }
 
 /// What is known of a row: with so many levels left, or more, this is what it answers.

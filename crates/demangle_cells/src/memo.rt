@@ -207,7 +207,23 @@ impl Memo {
     {
         match self.find(key, levels)?.outcome {
             Outcome::Refused(error) => Some(error),
-            Outcome::Found(_, _) => None,
+            _ => None,
+        }
+    }
+
+    /// What comes behind something more that is known, where this was the last of its place. It isn't this where it has
+    /// the same key: what is kept later of a key is kept for fewer levels.
+    fn link_behind(&self, last: u32, key: Key) -> u32 {
+        if last == 0 {
+            return 0;
+        }
+        match self.known.get(last as usize - 1) {
+            Some(known) if known.key == key => self
+                .links
+                .get(last as usize - 1)
+                .copied()
+                .unwrap_or(0),
+            _ => last,
         }
     }
 
@@ -216,11 +232,12 @@ impl Memo {
         ensures { memory self.new ≡ memory self.old }
     {
         let place = Self::place_of(key, self.heads.len());
+        let last = self.heads.get(place).copied().unwrap_or(0);
+        let behind = self.link_behind(last, key);
         match self.heads.get_mut(place) {
             Some(head) => {
-                let last = *head;
                 *head = number;
-                self.links.push(last)?;
+                self.links.push(behind)?;
                 Ok(())
             }
             None => Err(Error::OutOfMemory),

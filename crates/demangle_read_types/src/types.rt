@@ -7,7 +7,7 @@ ghost use Rattle.demangle_forms.specs.TypeForms.{type_extension_at, type_handle_
 ghost use Rattle.demangle_forms.specs.TypeForms.{type_param_at, type_qualified_at, type_shapes_at};
 ghost use Rattle.demangle_forms.specs.TypeForms.{type_substitution_at, type_template_at, type_templates_at};
 ghost use Rattle.demangle_forms.specs.Starts.{function_types_at, qualified_types_at, referred_types_at};
-ghost use Rattle.demangle_cells.specs.Reads.{Reads, ReadsRow, Tries};
+ghost use Rattle.demangle_cells.specs.Reads.{EndsRow, Reads, ReadsRow, Tries};
 ghost use Rattle.demangle_cells.specs.View.{Grown, view};
 ghost use Rattle.demangle_read_types.specs.Ahead.{TestsAhead};
 
@@ -20,7 +20,7 @@ use crate::first_bytes::{TypeStart, type_start};
 use crate::function_types::function_type;
 use crate::made::{made_one, restored};
 use crate::template_params::template_template_param_handle;
-use demangle_cells::{Arena, Cell, Depth, Part, Tag, Text, passed};
+use demangle_cells::{Arena, Cell, Depth, Part, RowName, Tag, Text, passed};
 use demangle_read_below::Below;
 use demangle_read_rows::{
     add_type, begins_function, next_is, some_cv_qualifiers, source_name, substitution,
@@ -382,7 +382,7 @@ fn type_param<B: Below>(
 /// alone, which is then the operator's own, even if it can't be read. Where a second list follows, the first is the
 /// parameter's. The first is read ahead and given back. An inner failure says that what follows belongs to the
 /// parameter.
-#[tactic(auto, using(demangle_cells::proofs::Grows::grows, demangle_cells::proofs::Grows::cuts), unfolding(demangle_grammar::specs::Code::trial_part))]
+#[tactic(auto, using(demangle_cells::proofs::Grows::grows, crate::proofs::Ahead::tried_end), unfolding(demangle_grammar::specs::Code::trial_part))]
 fn stands_alone<B: Below>(
     below: B,
     arena: &mut Arena,
@@ -402,17 +402,63 @@ fn stands_alone<B: Below>(
     if !depth.conversion {
         return Ok(Err(Error::UnexpectedText));
     }
-    let mark = arena.mark();
-    match passed(template_args(below, arena, depth, text, at))? {
-        Ok(args) => {
-            arena.cut_back(mark);
-            if next_is(text, args.end, b'I') {
+    match passed(arguments_ahead(below, arena, depth, text, at))? {
+        Ok(end) => {
+            if next_is(text, end, b'I') {
                 return Ok(Err(Error::UnexpectedText));
             }
             Ok(Ok(()))
         }
         Err(_) => Ok(Ok(())),
     }
+}
+
+/// Where arguments end that are read ahead; they are given back. Once what rows answer is kept, it is recalled, or read
+/// and remembered.
+#[tactic(auto, using(demangle_cells::proofs::Grows::grows, crate::proofs::Ahead::ends_here))]
+fn arguments_ahead<B: Below>(
+    below: B,
+    arena: &mut Arena,
+    depth: Depth,
+    text: Text<'_>,
+    at: u32,
+) -> Result<u32>
+    requires can { B.can below }
+    requires room { depth.levels < B.most below }
+    ensures grown { Grown (view arena.old) (view arena.new) }
+    ensures reads { EndsRow Row.template_args depth.levels depth.conversion text.entry at result
+        (view arena.old) (view arena.new) }
+{
+    if !arena.is_late(text) {
+        return arguments_tried(below, arena, depth, text, at);
+    }
+    if let Some(end) = arena.recall_end(RowName::TemplateArgs, depth, text, at) {
+        return end;
+    }
+    let end = arguments_tried(below, arena, depth, text, at);
+    arena.remember_end(RowName::TemplateArgs, depth, text, at, &end);
+    end
+}
+
+/// Where arguments end that are read and given back.
+#[tactic(auto, using(demangle_cells::proofs::Grows::grows, demangle_cells::proofs::Grows::cuts))]
+fn arguments_tried<B: Below>(
+    below: B,
+    arena: &mut Arena,
+    depth: Depth,
+    text: Text<'_>,
+    at: u32,
+) -> Result<u32>
+    requires can { B.can below }
+    requires room { depth.levels < B.most below }
+    ensures grown { Grown (view arena.old) (view arena.new) }
+    ensures reads { EndsRow Row.template_args depth.levels depth.conversion text.entry at result
+        (view arena.old) (view arena.new) }
+{
+    let mark = arena.mark();
+    let args = template_args(below, arena, depth, text, at)?;
+    arena.cut_back(mark);
+    Ok(args.end)
 }
 
 /// A template that is a parameter or a substitution, with its arguments.
