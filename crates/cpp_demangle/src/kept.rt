@@ -1,9 +1,8 @@
 //! What a symbol keeps of the name that was read.
 
-ghost use Rattle.std.specs.Prelude.{◌≡◌};
 ghost use Rattle.demangle_nodes.specs.TreeNodes.{tree_of_mangled_name};
 ghost use Rattle.demangle_table.specs.TableOf.{table_of};
-ghost use Rattle.demangle_cell_trees.specs.ArenaTrees as cells;
+ghost use Rattle.cpp_demangle.specs.Made.{IsMade};
 
 use demangle_cells::Arena;
 use demangle_context::{DemangleError, DemangleOptions, DemangleWrite, TextSink};
@@ -22,18 +21,19 @@ pub(crate) struct KeptName {
     root: u32,
     parsed: MangledName,
     substitutions: SubstitutionTable,
-    ghost tree: { cells.tree_at arena root ≡ tree_of_mangled_name parsed },
-    ghost table: { cells.table_of arena ≡ table_of substitutions },
+    ghost made: { ∥ IsMade arena root (tree_of_mangled_name parsed) (table_of substitutions) ∥₁ },
 }
 
 impl KeptName {
-    ghost use Rattle.std.specs.Prelude.{IfOk, MatchResult};
+    ghost use Rattle.std.specs.Prelude.{◌≡◌, MatchResult};
     ghost use Rattle.demangle_text.specs.declared.error.Error.TheVariants.{OutOfMemory};
     ghost use Rattle.demangle_lines_print.specs.Telling.{IsText, Tells, telling};
 
     /// What is kept of the tree of this index and of the components of its arena. `OutOfMemory` is its only refusal.
     pub(crate) fn of(alloc: Global, arena: Arena, root: u32) -> Result<KeptName>
-        ensures { MatchResult result (λ k. (k.arena ≡ arena) × (k.root ≡ root)) (λ e. e ≡ OutOfMemory) }
+        ensures { MatchResult result
+            (λ k. IsMade arena root (tree_of_mangled_name k.parsed) (table_of k.substitutions))
+            (λ e. e ≡ OutOfMemory) }
     {
         let mut substitutions = SubstitutionTable::new(alloc);
         match taken_out(alloc, &arena, 0, root, &mut substitutions) {
