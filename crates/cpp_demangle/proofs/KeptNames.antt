@@ -106,7 +106,7 @@ unfolding cells.table_of
 front_kept k a bytes left reply x found d l = (
   x.end,
   subst (λ bs. reply ≡ Found (tree_of_mangled_name k.parsed)
-  (here (record { index = x.end; left = bs }) (table_of k.substitutions))) (sym l)
+      (here (record { index = x.end; left = bs }) (table_of k.substitutions))) (sym l)
       (found_kept k a x.id x.end (drop x.end bytes) reply d (found (tree_at a) (trees_hold a))),
 )
 
