@@ -1,5 +1,5 @@
 -- From what the readers of a name answer to what a symbol holds, and that equal symbols are the same.
-use Rattle.std.specs.Prelude.{◌≡◌, ℕ, true, ◌&&◌, List, [], bytes_eq, Err}
+use Rattle.std.specs.Prelude.{◌≡◌, ℕ, true, ◌&&◌, List, [], bytes_eq}
 use Rattle.std.specs.Cmp.{first_so}
 use Rattle.std.proofs.Common.{sym, subst, ap, ◌∙◌, refl}
 use Rattle.std.proofs.lemmas.Slice.Eq.{bytes_eq-Decides}
@@ -14,7 +14,7 @@ use Rattle.demangle_grammar.specs.Reading.{Answer, Yes, No, Deep}
 use Rattle.demangle_grammar.specs.Code.{Reply, Found, Refused, Here, here}
 use Rattle.demangle_printing.specs.Outcome.{Options}
 use Rattle.demangle_read.specs.Reading.{reading, whole_at, whole}
-use Rattle.cpp_demangle.specs.Found.{IsFront, IsFound}
+use Rattle.cpp_demangle.specs.Found.{IsMissing}
 use Rattle.demangler.specs.Contents.{Contents, contents, same_contents, same_contents_equiv, telling_of}
 use Rattle.demangler.specs.Name.{IsSymbol, IsRead, IsRefused, IsNotWhole}
 use Rattle.demangler.proofs.Causes.{name_stops, error_stops}
@@ -48,12 +48,12 @@ pub symbol_whole : (limit : ℕ) {bytes : List ℕ} {x : Core} {p : Spot} {t : T
 symbol_whole limit {bytes} {x} {p} {t} e = symbol_at_front limit (unwhole (reading limit bytes) x (here p t) e).0
 
 -- ---- why there is no symbol
-pub refused_front : (limit : ℕ) (bytes : List ℕ) (e : Error) → IsFront (reading limit bytes) (Err e) →
+pub refused_front : (limit : ℕ) (bytes : List ℕ) (e : Error) → IsMissing (reading limit bytes) e →
     IsRefused (reading limit bytes) e
 refused_front limit bytes OutOfMemory d = tt
 refused_front limit bytes e d = (d, (error_stops e (name_stops _ _ bytes (kind e) d)).0)
 
-pub refused_whole : (limit : ℕ) (bytes : List ℕ) (e : Error) → IsFound (whole (reading limit bytes)) (Err e) →
+pub refused_whole : (limit : ℕ) (bytes : List ℕ) (e : Error) → IsMissing (whole (reading limit bytes)) e →
     IsRefused (whole (reading limit bytes)) e
 refused_whole limit bytes OutOfMemory d = tt
 refused_whole limit bytes e d = (d, (error_stops e (reading_stops limit bytes (kind e) d)).0)
@@ -64,7 +64,7 @@ found_not_refused e = cc
 whole_of : {reply : Reply} (x : Core) (h : Here) → reply ≡ Found x h → h.spot.left ≡ [] → whole reply ≡ Found x h
 whole_of x h e n = ap whole e ∙ ap (λ l. whole_at l x h) n
 
-pub not_whole : (limit : ℕ) (bytes : List ℕ) (e : Error) → IsFound (whole (reading limit bytes)) (Err e) →
+pub not_whole : (limit : ℕ) (bytes : List ℕ) (e : Error) → IsMissing (whole (reading limit bytes)) e →
     IsNotWhole (reading limit bytes) e
 not_whole limit bytes OutOfMemory d = tt
 not_whole limit bytes e d = λ x h f n. found_not_refused (sym (whole_of x h f n) ∙ d)

@@ -3,10 +3,10 @@
 
 pub mod ast;
 pub mod error;
+mod kept;
 mod raw;
 mod reading;
 mod symbol;
-mod telling;
 
 pub use demangle_scope::{DemangleNodeType, DemangleOptions, DemangleWrite, TextSink};
 pub use demangle_text::ParseOptions;

@@ -3,30 +3,27 @@
 ghost use Rattle.std.specs.Prelude.{◌≡◌, true, false, [], MatchResult, IfOk, IfErr};
 ghost use Rattle.demangle_nodes.specs.TreeNodes.{tree_of_mangled_name};
 ghost use Rattle.demangle_table.specs.TableOf.{table_of};
-ghost use Rattle.demangle_text.specs.declared.error.Error.TheVariants.{OutOfMemory};
 ghost use Rattle.demangler.specs.Contents.{contents};
 ghost use Rattle.demangler.specs.Name.{IsSymbol};
 
+use crate::kept::KeptName;
 use crate::raw::RawBytes;
 use crate::reading::{read_front, read_whole};
-use crate::telling::{tell, text};
-use demangle_copies::TryClone;
-use demangle_discard::Discard;
-use demangle_release::release;
 use demangle_scope::{DemangleError, DemangleOptions, DemangleWrite};
 use demangle_text::{ParseOptions, Result};
 use demangle_tree::{MangledName, SubstitutionTable};
 use std::alloc::Global;
+use std::fmt;
+use std::fmt::Write;
 
 /// A name that was read: its bytes, the table of its components, and its tree. Table and tree are always what the
 /// ordered reading without a limit gives for the bytes, and sound: each reference is to an entry that was inserted
 /// earlier. The original's type of this name.
-#[derive(Debug)]
 pub struct Symbol<T: RawBytes> {
     raw: T,
-    substitutions: SubstitutionTable,
-    parsed: MangledName,
-    pub ghost is: { ∥ IsSymbol (contents (T.bytes raw) (table_of substitutions) (tree_of_mangled_name parsed)) ∥₁ },
+    name: KeptName,
+    pub ghost is: { ∥ IsSymbol (contents (T.bytes raw) (table_of name.substitutions)
+        (tree_of_mangled_name name.parsed)) ∥₁ },
 }
 
 /// A symbol that owns its bytes.
@@ -67,11 +64,7 @@ impl<T: RawBytes> Symbol<T> {
         ensures as_with_tail { IfErr result (IsNotWhole (reading options.now (T.bytes raw))) }
     {
         match read_whole(alloc, raw.raw_bytes(), options) {
-            Ok((parsed, substitutions)) => Ok(Symbol {
-                raw,
-                substitutions,
-                parsed,
-            }),
+            Ok(name) => Ok(Symbol { raw, name }),
             Err(error) => Err(error),
         }
     }
@@ -87,14 +80,14 @@ impl<T: RawBytes> Symbol<T> {
     pub fn substitutions(&self) -> &SubstitutionTable
         ensures { table_of result.now ≡ (contents_of self.now).table }
     {
-        &self.substitutions
+        self.name.substitutions()
     }
 
     /// The tree of the name.
     pub fn parsed(&self) -> &MangledName
         ensures { tree_of_mangled_name result.now ≡ (contents_of self.now).tree }
     {
-        &self.parsed
+        self.name.parsed()
     }
 
     /// The text of the name, printed under the default options. Errors are those of `demangle_with_options`.
@@ -121,13 +114,7 @@ impl<T: RawBytes> Symbol<T> {
         ensures declared { (p : Plain) → IsPlain (contents_of self.now) p → Declares (declared p) result }
         ensures causes { IfErr result (λ e. may_come (print_fault e) ≡ true) }
     {
-        text(
-            alloc,
-            &self.parsed,
-            &self.substitutions,
-            self.raw.raw_bytes(),
-            options,
-        )
+        self.name.text(alloc, self.raw.raw_bytes(), options)
     }
 
     /// Tells a listener the text of the name, and where nodes begin and end. Errors are those of the printing of its
@@ -146,40 +133,12 @@ impl<T: RawBytes> Symbol<T> {
             → Tells (W.seen out.old) (W.seen out.new) options.now.limit
             (telling_unshared options.now (contents_of self.now)) result }
     {
-        tell(
-            alloc,
-            &self.parsed,
-            &self.substitutions,
-            self.raw.raw_bytes(),
-            options,
-            out,
-        )
-    }
-}
-
-/// A copy of a tree and of its table.
-fn copies(
-    alloc: Global,
-    name: &MangledName,
-    table: &SubstitutionTable,
-) -> Result<(MangledName, SubstitutionTable)>
-    ensures copy { IfOk result (λ x. (tree_of_mangled_name x.0 ≡ tree_of_mangled_name name.now)
-        × (table_of x.1 ≡ table_of table.now)) }
-    ensures refused { IfErr result (λ e. e ≡ OutOfMemory) }
-{
-    match name.try_clone(alloc) {
-        Ok(parsed) => match table.try_clone(alloc) {
-            Ok(substitutions) => Ok((parsed, substitutions)),
-            Err(error) => {
-                parsed.discard();
-                Err(error)
-            }
-        },
-        Err(error) => Err(error),
+        self.name.tell(alloc, self.raw.raw_bytes(), options, out)
     }
 }
 
 impl<'a> Symbol<&'a [u8]> {
+    ghost use Rattle.demangle_text.specs.declared.error.Error.TheVariants.{OutOfMemory};
     ghost use Rattle.demangle_read.specs.Reading.{reading};
     ghost use Rattle.demangler.specs.Name.{IsRead, IsRefused};
     ghost use Rattle.demangler.specs.Contents.{same_contents};
@@ -206,14 +165,7 @@ impl<'a> Symbol<&'a [u8]> {
             (IsRefused (reading options.now input.entry.now)) }
     {
         match read_front(alloc, input, options) {
-            Ok((parsed, substitutions, rest)) => Ok((
-                Symbol {
-                    raw: input,
-                    substitutions,
-                    parsed,
-                },
-                rest.as_slice(),
-            )),
+            Ok((name, rest)) => Ok((Symbol { raw: input, name }, rest)),
             Err(error) => Err(error),
         }
     }
@@ -224,16 +176,16 @@ impl<'a> Symbol<&'a [u8]> {
         ensures equal { IfOk result (λ s. same_contents (contents_of s) (contents_of self.now) ≡ true) }
         ensures refused { IfErr result (λ e. e ≡ OutOfMemory) }
     {
-        let (parsed, substitutions) = copies(alloc, &self.parsed, &self.substitutions)?;
+        let name = self.name.copied(alloc)?;
         Ok(Symbol {
             raw: self.raw,
-            substitutions,
-            parsed,
+            name,
         })
     }
 }
 
 impl Symbol<Vec<u8>> {
+    ghost use Rattle.demangle_text.specs.declared.error.Error.TheVariants.{OutOfMemory};
     ghost use Rattle.demangler.specs.Contents.{same_contents};
     ghost use Rattle.cpp_demangle.specs.SymbolOf.{contents_of};
 
@@ -244,24 +196,27 @@ impl Symbol<Vec<u8>> {
         ensures refused { IfErr result (λ e. e ≡ OutOfMemory) }
     {
         let raw = self.raw.to_vec(alloc)?;
-        let (parsed, substitutions) = copies(alloc, &self.parsed, &self.substitutions)?;
-        Ok(Symbol {
-            raw,
-            substitutions,
-            parsed,
-        })
+        let name = self.name.copied(alloc)?;
+        Ok(Symbol { raw, name })
     }
 }
 
 impl<T: RawBytes> Drop for Symbol<T> {
     fn drop(self) {
-        let Symbol {
-            raw,
-            substitutions,
-            parsed,
-        } = self;
+        let Symbol { raw, name } = self;
         drop(raw);
-        release(parsed, substitutions);
+        drop(name);
+    }
+}
+
+/// `Symbol { raw: .., substitutions: .., parsed: .. }`.
+impl<T: RawBytes + fmt::Debug> fmt::Debug for Symbol<T> {
+    fn fmt<W: Write>(&self, f: &mut fmt::Formatter<W>) -> fmt::Result {
+        f.debug_struct("Symbol")
+            .field("raw", &self.raw)
+            .field("substitutions", self.name.substitutions())
+            .field("parsed", self.name.parsed())
+            .finish()
     }
 }
 
@@ -283,8 +238,8 @@ impl<T: RawBytes> PartialEq for Symbol<T> {
             → telling_of o (contents_of self.now) ≡ telling_of o (contents_of other.now) }
     {
         self.raw.raw_bytes() == other.raw.raw_bytes()
-            && self.substitutions == other.substitutions
-            && self.parsed == other.parsed
+            && self.name.substitutions() == other.name.substitutions()
+            && self.name.parsed() == other.name.parsed()
     }
 }
 

@@ -16,4 +16,6 @@ mod types;
 mod words;
 
 pub use parse::Parse;
+pub use parsed::taken_out;
 pub use read_cells::ReadCells;
+pub use table::arena_of;

@@ -22,7 +22,7 @@ use std::alloc::Global;
 
 /// The node whose tree has this index, and the components behind the first `count`, which go to the table. Where it
 /// fails the table may have some of them. `OutOfMemory` is its only refusal.
-fn taken_out<X: ReadCells>(
+pub fn taken_out<X: ReadCells>(
     alloc: Global,
     arena: &Arena,
     count: usize,

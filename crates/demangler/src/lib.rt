@@ -13,3 +13,4 @@ pub use demangler::Demangler;
 pub use fault::SymbolFault;
 pub use listened::structured_demangle_symbol;
 pub use symbol::demangle_symbol;
+pub use told::tell_tree;

@@ -19,7 +19,7 @@ use std::alloc::Global;
 /// Tells a listener the text of a tree of an arena. Errors are those of the printing; where there is no memory for its
 /// stacks, the listener is told nothing.
 #[inline(always)]
-fn tree_told<W: DemangleWrite>(
+pub fn tell_tree<W: DemangleWrite>(
     alloc: Global,
     arena: &Arena,
     id: u32,
@@ -61,7 +61,7 @@ pub(crate) fn told<W: DemangleWrite>(
 {
     match read_whole(arena, bytes, parse) {
         Ok(id) => {
-            let told = tree_told(alloc, arena, id, bytes, out, print);
+            let told = tell_tree(alloc, arena, id, bytes, out, print);
             match told {
                 Ok(()) => Ok(()),
                 Err(error) => Err(print_fault(error)),

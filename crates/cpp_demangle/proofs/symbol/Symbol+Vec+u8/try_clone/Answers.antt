@@ -9,6 +9,6 @@ use Rattle.cpp_demangle.proofs.symbol.«Symbol+Vec+u8».try_clone.Goals as goal
 pub returns-clause-equal : goal.returns-clause-equal
 returns-clause-equal c =
     copies_equal
-    (contents c.in_ok-raw.raw.items (table_of c.in_ok-parsed.substitutions)
-    (tree_of_mangled_name c.in_ok-parsed.parsed))
+    (contents c.in_ok-raw.raw.items (table_of c.in_ok-name.name.substitutions)
+    (tree_of_mangled_name c.in_ok-name.name.parsed))
     (contents_of c.args.self.now) (search rules)

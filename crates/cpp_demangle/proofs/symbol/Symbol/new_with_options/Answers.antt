@@ -1,6 +1,6 @@
-use Rattle.std.proofs.Common.{Err, subst}
+use Rattle.std.proofs.Common.{subst}
 use Rattle.demangle_read.specs.Reading.{reading, whole}
-use Rattle.cpp_demangle.specs.Found.{IsFound}
+use Rattle.cpp_demangle.specs.Found.{IsMissing}
 use Rattle.cpp_demangle.proofs.Symbols.{read_whole, symbol_whole, refused_whole, not_whole}
 use Rattle.cpp_demangle.proofs.symbol.Symbol.new_with_options.Goals as goal
 
@@ -14,11 +14,11 @@ returns-in-Ok-clause-read g c = read_whole (rw c.raw_bytes.ensures at c.in-Ok.en
 pub returns-in-Err-clause-read : goal.returns-in-Err-clause-read
 returns-in-Err-clause-read g c =
     refused_whole c.args.options.now (g.T.RawBytes.bytes c.args.raw) c.in-Err.error
-    (subst (λ bytes. IsFound (whole (reading c.args.options.now bytes)) (Err c.in-Err.error)) c.raw_bytes.ensures
+    (subst (λ bytes. IsMissing (whole (reading c.args.options.now bytes)) c.in-Err.error) c.raw_bytes.ensures
     c.in-Err.ensures)
 
 pub returns-in-Err-clause-as_with_tail : goal.returns-in-Err-clause-as_with_tail
 returns-in-Err-clause-as_with_tail g c =
     not_whole c.args.options.now (g.T.RawBytes.bytes c.args.raw) c.in-Err.error
-    (subst (λ bytes. IsFound (whole (reading c.args.options.now bytes)) (Err c.in-Err.error)) c.raw_bytes.ensures
+    (subst (λ bytes. IsMissing (whole (reading c.args.options.now bytes)) c.in-Err.error) c.raw_bytes.ensures
     c.in-Err.ensures)

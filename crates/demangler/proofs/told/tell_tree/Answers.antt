@@ -3,7 +3,7 @@ use Rattle.demangle_cell_trees.specs.ArenaTrees.{tree_at}
 use Rattle.demangle_cell_trees.specs.NodeTrees.{table_in}
 use Rattle.demangle_lines_print.specs.Telling.{Tells, telling}
 use Rattle.demangler.proofs.NamesTold.{tells_nothing}
-use Rattle.demangler.proofs.told.tree_told.Goals as goal
+use Rattle.demangler.proofs.told.tell_tree.Goals as goal
 
 pub returns-in_default : goal.returns-in_default
 returns-in_default g c = tells_nothing (g.W.DemangleWrite.seen c.args.out.now) c.args.print.now.limit _
