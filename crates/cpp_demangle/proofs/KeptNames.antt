@@ -1,5 +1,5 @@
 -- From what is read into an arena to what is kept of it, by what each of the arena's indexes stands for.
-use Rattle.std.specs.Prelude.{◌≡◌, ℕ, ◌-◌, ◌≤◌, List, [], map, take, drop, length}
+use Rattle.std.specs.Prelude.{◌≡◌, ℕ, ◌-◌, ◌+◌, ◌≤◌, List, [], map, take, drop, length, if◌then◌else◌}
 use Rattle.std.specs.Prelude.{Result, Ok, Err, MatchResult}
 use Rattle.std.proofs.Common.{sym, subst, ap, ◌∙◌, arith, length-drop}
 use Rattle.std.proofs.lemmas.List.{take_all}
@@ -13,10 +13,13 @@ use Rattle.demangle_grammar.proofs.CodeLaws.{index_kept}
 use Rattle.demangle_nodes.specs.TreeNodes.{tree_of_mangled_name}
 use Rattle.demangle_printing.specs.Outcome.{Options}
 use Rattle.demangle_table.specs.TableOf.{table_of}
+use Rattle.demangle_cells.specs.Behind.{is_known}
+use Rattle.demangle_cells.specs.Fixed.{first_cell}
+use Rattle.demangle_cells.specs.Model.{model, valued, values}
 use Rattle.demangle_cells.specs.View.{View, Holds, Grown, entry, table, view}
 use Rattle.demangle_cells.specs.declared.arena.Arena.{Arena}
 use Rattle.demangle_cells.specs.declared.text.Part as parts
-use Rattle.demangle_cell_trees.specs.ArenaTrees.{tree_at}
+use Rattle.demangle_cell_trees.specs.ArenaTrees.{absent, tree_at, trees}
 use Rattle.demangle_cell_trees.specs.ArenaTrees as cells
 use Rattle.demangle_cell_trees.proofs.Hold.{trees_hold}
 use Rattle.demangle_lines_print.specs.Telling.{telling}
@@ -42,6 +45,25 @@ unfolding cells.table_of
 made_of a id x before behind e made =
     let d = made (tree_at a) (trees_hold a) (none_before (tree_at a) (view a) before e) in
     record { tree = d.0; table = d.1 }
+
+-- ---- copied
+-- The trees are told by the cells and the list of indexes.
+same_trees : (u v : View) → u.cells ≡ v.cells → u.list ≡ v.list → trees u ≡ trees v
+unfolding model
+same_trees u v c l =
+    ap (λ cs k. if is_known (first_cell + length cs) k then valued (values [] u.list cs) k else absent) c
+    ∙ ap (λ list k. if is_known (first_cell + length v.cells) k then valued (values [] list v.cells) k else absent) l
+
+pub made_of_copy : (a b : Arena) (id : ℕ) (x : Core) (t : Table) → (view b).cells ≡ (view a).cells →
+    (view b).list ≡ (view a).list → (view b).entries ≡ (view a).entries → IsMade b id x t → IsMade a id x t
+unfolding tree_at cells.table_of table
+made_of_copy a b id x t c l e made =
+    record {
+      tree = ap (λ f. f id) (same_trees (view a) (view b) (sym c) (sym l)) ∙ made.tree;
+      table =
+          ap (λ es. map (entry (trees (view a))) es) (sym e)
+          ∙ (ap (λ f. map (entry f) (view b).entries) (same_trees (view a) (view b) (sym c) (sym l)) ∙ made.table);
+    }
 
 -- ---- put into cells
 tree_put : (a : Arena) (id : ℕ) (x : Core) → ((F : ℕ → Core) → Holds F (view a) → F id ≡ x) → tree_at a id ≡ x

@@ -29,12 +29,14 @@ impl KeptName {
     ghost use Rattle.demangle_text.specs.declared.error.Error.TheVariants.{OutOfMemory};
     ghost use Rattle.demangle_lines_print.specs.Telling.{IsText, Tells, telling};
 
-    /// What is kept of the tree of this index and of the components of its arena. `OutOfMemory` is its only refusal.
-    pub(crate) fn of(alloc: Global, arena: Arena, root: u32) -> Result<KeptName>
+    /// What is kept of the tree of this index and of the components of its arena: a copy of the cells, without the room
+    /// that reading left to spare. `OutOfMemory` is its only refusal.
+    pub(crate) fn of(alloc: Global, read: &Arena, root: u32) -> Result<KeptName>
         ensures { MatchResult result
-            (λ k. IsMade arena root (tree_of_mangled_name k.parsed) (table_of k.substitutions))
+            (λ k. IsMade read.now root (tree_of_mangled_name k.parsed) (table_of k.substitutions))
             (λ e. e ≡ OutOfMemory) }
     {
+        let arena = read.fitted(alloc)?;
         let mut substitutions = SubstitutionTable::new(alloc);
         match taken_out(alloc, &arena, 0, root, &mut substitutions) {
             Ok(parsed) => Ok(KeptName {
@@ -57,7 +59,7 @@ impl KeptName {
     {
         let mut arena = arena_of(alloc, &self.substitutions)?;
         let root = mangled_name_to(&mut arena, &self.parsed)?;
-        KeptName::of(alloc, arena, root)
+        KeptName::of(alloc, &arena, root)
     }
 
     /// The tree of the name.

@@ -23,7 +23,7 @@ pub(crate) fn read_front<'a>(
     match demangle_read::read_front(&mut arena, input, options) {
         Ok(part) => {
             let rest = &input[part.end as usize..];
-            match KeptName::of(alloc, arena, part.id) {
+            match KeptName::of(alloc, &arena, part.id) {
                 Ok(name) => Ok((name, rest)),
                 Err(_) => Err(Error::OutOfMemory),
             }
@@ -40,7 +40,7 @@ pub(crate) fn read_whole(alloc: Global, input: &[u8], options: &ParseOptions) ->
 {
     let mut arena = Arena::new(alloc);
     match demangle_read::read_whole(&mut arena, input, options) {
-        Ok(id) => match KeptName::of(alloc, arena, id) {
+        Ok(id) => match KeptName::of(alloc, &arena, id) {
             Ok(name) => Ok(name),
             Err(_) => Err(Error::OutOfMemory),
         },

@@ -7,7 +7,7 @@ returns-in-Ok-of c =
     whole_kept c.in-Ok-of.name c.read_whole.new.arena (whole (reading c.args.options.now c.args.input.now)) c.in-Ok.id
     c.in-Ok.ensures c.in-Ok-of.ensures
 
-pub returns-in-Err : goal.returns-in-Err
-returns-in-Err c =
+pub returns : goal.returns
+returns c =
     whole_missing c.read_whole.new.arena (whole (reading c.args.options.now c.args.input.now)) c.in-Err.error
     c.in-Err.ensures
