@@ -1,16 +1,26 @@
 -- What contracts see of a context of reading, and what a reader of a row answers in one.
-use Rattle.std.specs.Prelude.{ℕ, suc, ◌-◌, Bool, Result}
+use Rattle.std.specs.Prelude.{◌≡◌, ℕ, suc, ◌-◌, max, Bool, Result}
 use Rattle.demangle_text.specs.declared.index_str.IndexStr.{IndexStr}
 use Rattle.demangle_text.specs.declared.error.Error.{Error}
 use Rattle.demangle_core.specs.Core.{Core}
 use Rattle.demangle_grammar.specs.Rule.{Row}
 use Rattle.demangle_leaf_rows.specs.Answers.{AnswersLeaf, AnswersLeafOrOutOfMemory}
 
--- the limit on levels, the level that was entered last, and whether a conversion operator's type is being read
+-- the limit on levels, the level that was entered last, whether a conversion operator's type is being read, and the
+-- deepest level that was entered
 pub record Context : Type 0 where
   pub limit : ℕ
   pub level : ℕ
   pub conversion : Bool
+  pub deepest : ℕ
+
+-- the deepest level raised to this one, where it is deeper
+abbrev pub raised : ℕ → Context → Context
+raised to c = record { limit = c.limit; level = c.level; conversion = c.conversion; deepest = max c.deepest to }
+
+-- all but the deepest level is as before
+abbrev pub Keeps : (old new : Context) → Type 0
+Keeps old new = (new.limit ≡ old.limit) × (new.level ≡ old.level) × (new.conversion ≡ old.conversion)
 
 -- how many levels may still be entered
 abbrev pub levels_left : Context → ℕ

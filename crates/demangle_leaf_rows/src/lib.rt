@@ -4,6 +4,7 @@
 
 mod bytes;
 mod context;
+mod deepening;
 mod depth;
 mod lists;
 mod names;
@@ -16,6 +17,7 @@ mod words;
 
 pub use bytes::{digit_at, optional_word};
 pub use context::ParseContext;
+pub use deepening::{read_leaf_in, substitution_in};
 pub use depth::{Depth, hidden};
 pub use lists::{abi_tags, clone_suffix};
 pub use numbers::{seq_id, substitution};

@@ -271,3 +271,33 @@ fn each_other_row_is_read(rt: HostRuntime) {
     numbers_and_offsets_are_read(&rt, &mut ctx);
     numbered_things_are_read(&rt, &mut ctx);
 }
+
+fn rows_raise_the_deepest_level(rt: &impl Abort, alloc: Global, ctx: &mut ParseContext) {
+    let refused = read_call_offset(ctx, IndexStr::new(b"E")).is_err();
+    same(rt, "an offset", (refused, ctx.deepest()), (true, 1));
+    let refused = read_function_param(ctx, IndexStr::new(b"fL0p0")).is_err();
+    same(rt, "a parameter", (refused, ctx.deepest()), (true, 2));
+    let read = read_number(ctx, IndexStr::new(b"1")).is_ok();
+    same(rt, "a number", (read, ctx.deepest()), (true, 2));
+    let read = read_abi_tag(ctx, IndexStr::new(b"B1A")).is_ok();
+    same(rt, "a tag", (read, ctx.deepest()), (true, 3));
+    let read = read_clone_suffix(alloc, ctx, IndexStr::new(b".i_ra.3")).is_ok();
+    same(rt, "a suffix", (read, ctx.deepest()), (true, 3));
+}
+
+#[test]
+fn the_deepest_level_is_known(rt: HostRuntime) {
+    let mut ctx = context();
+    same(&rt, "at first", (ctx.limit(), ctx.deepest()), (96, 0));
+    rows_raise_the_deepest_level(&rt, rt.alloc(), &mut ctx);
+    same(&rt, "a level", ctx.enter(), Ok(()));
+    let was = ctx.reset_deepest();
+    same(&rt, "from a level on", (was, ctx.deepest()), (3, 1));
+    let read = read_source_name(&mut ctx, IndexStr::new(b"1a")).is_ok();
+    same(&rt, "below a level", (read, ctx.deepest()), (true, 3));
+    if ctx.limit() > 5 {
+        ctx.raise_deepest(5);
+        ctx.raise_deepest(4);
+    }
+    same(&rt, "raised", ctx.deepest(), 5);
+}

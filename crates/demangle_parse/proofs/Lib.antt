@@ -2,3 +2,4 @@ pub mod Adding
 pub mod Behind
 pub mod Made
 pub mod Places
+pub mod Tries

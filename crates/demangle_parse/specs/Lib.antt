@@ -1,2 +1,3 @@
 pub mod Adds
+pub mod Levels
 pub mod Reading

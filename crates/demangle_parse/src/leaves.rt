@@ -16,7 +16,9 @@ use demangle_entries::{
     FunctionParam, Identifier, Number, NvOffset, ResourceName, SeqId, SourceName, Substitution,
     TemplateParam, UnnamedTypeName, VOffset,
 };
-use demangle_leaf_rows::{ParseContext, ReadLeaf, abi_tags, clone_suffix, substitution};
+use demangle_leaf_rows::{
+    ParseContext, read_abi_tags, read_clone_suffix, read_leaf_in, substitution_in,
+};
 use demangle_table::SubstitutionTable;
 use demangle_text::{IndexStr, Result};
 use std::alloc::Global;
@@ -32,7 +34,7 @@ impl Parse for Number {
         _subs: &mut SubstitutionTable,
         input: IndexStr<'b>,
     ) -> Result<(Number, IndexStr<'b>)> {
-        Number::read_leaf(ctx.depth(), input)
+        read_leaf_in(ctx, input)
     }
 }
 
@@ -47,7 +49,7 @@ impl Parse for SeqId {
         _subs: &mut SubstitutionTable,
         input: IndexStr<'b>,
     ) -> Result<(SeqId, IndexStr<'b>)> {
-        SeqId::read_leaf(ctx.depth(), input)
+        read_leaf_in(ctx, input)
     }
 }
 
@@ -62,7 +64,7 @@ impl Parse for SourceName {
         _subs: &mut SubstitutionTable,
         input: IndexStr<'b>,
     ) -> Result<(SourceName, IndexStr<'b>)> {
-        SourceName::read_leaf(ctx.depth(), input)
+        read_leaf_in(ctx, input)
     }
 }
 
@@ -77,7 +79,7 @@ impl Parse for Identifier {
         _subs: &mut SubstitutionTable,
         input: IndexStr<'b>,
     ) -> Result<(Identifier, IndexStr<'b>)> {
-        Identifier::read_leaf(ctx.depth(), input)
+        read_leaf_in(ctx, input)
     }
 }
 
@@ -92,7 +94,7 @@ impl Parse for CloneTypeIdentifier {
         _subs: &mut SubstitutionTable,
         input: IndexStr<'b>,
     ) -> Result<(CloneTypeIdentifier, IndexStr<'b>)> {
-        CloneTypeIdentifier::read_leaf(ctx.depth(), input)
+        read_leaf_in(ctx, input)
     }
 }
 
@@ -107,7 +109,7 @@ impl Parse for AbiTag {
         _subs: &mut SubstitutionTable,
         input: IndexStr<'b>,
     ) -> Result<(AbiTag, IndexStr<'b>)> {
-        AbiTag::read_leaf(ctx.depth(), input)
+        read_leaf_in(ctx, input)
     }
 }
 
@@ -122,7 +124,7 @@ impl Parse for AbiTags {
         _subs: &mut SubstitutionTable,
         input: IndexStr<'b>,
     ) -> Result<(AbiTags, IndexStr<'b>)> {
-        abi_tags(alloc, ctx.depth(), input)
+        read_abi_tags(alloc, ctx, input)
     }
 }
 
@@ -137,7 +139,7 @@ impl Parse for CloneSuffix {
         _subs: &mut SubstitutionTable,
         input: IndexStr<'b>,
     ) -> Result<(CloneSuffix, IndexStr<'b>)> {
-        clone_suffix(alloc, ctx.depth(), input)
+        read_clone_suffix(alloc, ctx, input)
     }
 }
 
@@ -152,7 +154,7 @@ impl Parse for NvOffset {
         _subs: &mut SubstitutionTable,
         input: IndexStr<'b>,
     ) -> Result<(NvOffset, IndexStr<'b>)> {
-        NvOffset::read_leaf(ctx.depth(), input)
+        read_leaf_in(ctx, input)
     }
 }
 
@@ -167,7 +169,7 @@ impl Parse for VOffset {
         _subs: &mut SubstitutionTable,
         input: IndexStr<'b>,
     ) -> Result<(VOffset, IndexStr<'b>)> {
-        VOffset::read_leaf(ctx.depth(), input)
+        read_leaf_in(ctx, input)
     }
 }
 
@@ -182,7 +184,7 @@ impl Parse for CallOffset {
         _subs: &mut SubstitutionTable,
         input: IndexStr<'b>,
     ) -> Result<(CallOffset, IndexStr<'b>)> {
-        CallOffset::read_leaf(ctx.depth(), input)
+        read_leaf_in(ctx, input)
     }
 }
 
@@ -197,7 +199,7 @@ impl Parse for Discriminator {
         _subs: &mut SubstitutionTable,
         input: IndexStr<'b>,
     ) -> Result<(Discriminator, IndexStr<'b>)> {
-        Discriminator::read_leaf(ctx.depth(), input)
+        read_leaf_in(ctx, input)
     }
 }
 
@@ -212,7 +214,7 @@ impl Parse for TemplateParam {
         _subs: &mut SubstitutionTable,
         input: IndexStr<'b>,
     ) -> Result<(TemplateParam, IndexStr<'b>)> {
-        TemplateParam::read_leaf(ctx.depth(), input)
+        read_leaf_in(ctx, input)
     }
 }
 
@@ -227,7 +229,7 @@ impl Parse for FunctionParam {
         _subs: &mut SubstitutionTable,
         input: IndexStr<'b>,
     ) -> Result<(FunctionParam, IndexStr<'b>)> {
-        FunctionParam::read_leaf(ctx.depth(), input)
+        read_leaf_in(ctx, input)
     }
 }
 
@@ -242,7 +244,7 @@ impl Parse for CvQualifiers {
         _subs: &mut SubstitutionTable,
         input: IndexStr<'b>,
     ) -> Result<(CvQualifiers, IndexStr<'b>)> {
-        CvQualifiers::read_leaf(ctx.depth(), input)
+        read_leaf_in(ctx, input)
     }
 }
 
@@ -257,7 +259,7 @@ impl Parse for UnnamedTypeName {
         _subs: &mut SubstitutionTable,
         input: IndexStr<'b>,
     ) -> Result<(UnnamedTypeName, IndexStr<'b>)> {
-        UnnamedTypeName::read_leaf(ctx.depth(), input)
+        read_leaf_in(ctx, input)
     }
 }
 
@@ -272,7 +274,7 @@ impl Parse for ResourceName {
         _subs: &mut SubstitutionTable,
         input: IndexStr<'b>,
     ) -> Result<(ResourceName, IndexStr<'b>)> {
-        ResourceName::read_leaf(ctx.depth(), input)
+        read_leaf_in(ctx, input)
     }
 }
 
@@ -287,6 +289,6 @@ impl Parse for Substitution {
         subs: &mut SubstitutionTable,
         input: IndexStr<'b>,
     ) -> Result<(Substitution, IndexStr<'b>)> {
-        substitution(ctx.depth(), subs.len(), input)
+        substitution_in(ctx, subs.len(), input)
     }
 }

@@ -6,6 +6,7 @@ mod divided;
 mod entries;
 mod expressions;
 mod leaves;
+mod levels;
 mod names;
 mod padded;
 mod parse;

@@ -6,7 +6,7 @@ ghost use Rattle.demangle_leaf_nodes.specs.TreeLeaves.{tree_of_well_known_compon
 ghost use Rattle.demangle_grammar.specs.Rule.{Row};
 
 use crate::parse::Parse;
-use demangle_leaf_rows::{ParseContext, ReadLeaf};
+use demangle_leaf_rows::{ParseContext, read_leaf_in};
 use demangle_table::SubstitutionTable;
 use demangle_text::{IndexStr, Result};
 use demangle_vocab::{
@@ -26,7 +26,7 @@ impl Parse for SimpleOperatorName {
         _subs: &mut SubstitutionTable,
         input: IndexStr<'b>,
     ) -> Result<(SimpleOperatorName, IndexStr<'b>)> {
-        SimpleOperatorName::read_leaf(ctx.depth(), input)
+        read_leaf_in(ctx, input)
     }
 }
 
@@ -41,7 +41,7 @@ impl Parse for StandardBuiltinType {
         _subs: &mut SubstitutionTable,
         input: IndexStr<'b>,
     ) -> Result<(StandardBuiltinType, IndexStr<'b>)> {
-        StandardBuiltinType::read_leaf(ctx.depth(), input)
+        read_leaf_in(ctx, input)
     }
 }
 
@@ -56,7 +56,7 @@ impl Parse for WellKnownComponent {
         _subs: &mut SubstitutionTable,
         input: IndexStr<'b>,
     ) -> Result<(WellKnownComponent, IndexStr<'b>)> {
-        WellKnownComponent::read_leaf(ctx.depth(), input)
+        read_leaf_in(ctx, input)
     }
 }
 
@@ -71,7 +71,7 @@ impl Parse for RefQualifier {
         _subs: &mut SubstitutionTable,
         input: IndexStr<'b>,
     ) -> Result<(RefQualifier, IndexStr<'b>)> {
-        RefQualifier::read_leaf(ctx.depth(), input)
+        read_leaf_in(ctx, input)
     }
 }
 
@@ -86,6 +86,6 @@ impl Parse for ExplicitObjectParameter {
         _subs: &mut SubstitutionTable,
         input: IndexStr<'b>,
     ) -> Result<(ExplicitObjectParameter, IndexStr<'b>)> {
-        ExplicitObjectParameter::read_leaf(ctx.depth(), input)
+        read_leaf_in(ctx, input)
     }
 }

@@ -123,6 +123,18 @@ pub fn first_wrong_under(alloc: Global, readings: &[(u32, Reading)]) -> Option<u
     None
 }
 
+/// The same, each with the deepest level that it enters, the options all having this limit.
+pub fn first_wrong_depth(alloc: Global, limit: u32, readings: &[(u32, Reading)]) -> Option<usize> {
+    for (i, (deepest, reading)) in readings.iter().enumerate() {
+        let options = ParseOptions::default().recursion_limit(limit.max(1));
+        let mut ctx = ParseContext::new(options);
+        if !is_answer_alone(alloc, &mut ctx, reading) || ctx.deepest() != *deepest {
+            return Some(i);
+        }
+    }
+    None
+}
+
 /// The same, all in this context and from one table.
 pub fn first_wrong_in_turn(
     alloc: Global,

@@ -1,10 +1,12 @@
 //! The tests: tables of readings, and readings from one table.
 
-use crate::answers::{Reading, Row, first_wrong, first_wrong_in_turn, first_wrong_under};
+use crate::answers::{
+    Reading, Row, first_wrong, first_wrong_depth, first_wrong_in_turn, first_wrong_under,
+};
 use crate::checks::same;
 use crate::expressions::EXPRESSIONS;
 use crate::leaves::LEAVES;
-use crate::limits::LIMITS;
+use crate::limits::{DEEPEST, LIMITS};
 use crate::names::NAMES;
 use crate::types::TYPES;
 use crate::whole_names::WHOLE_NAMES;
@@ -81,6 +83,12 @@ fn each_row_is_read(rt: HostRuntime) {
 #[test]
 fn levels_are_counted_in_what_is_tried(rt: HostRuntime) {
     same(&rt, "limits", first_wrong_under(rt.alloc(), &LIMITS), None);
+}
+
+#[test]
+fn the_deepest_level_is_known(rt: HostRuntime) {
+    let wrong = first_wrong_depth(rt.alloc(), 1024, &DEEPEST);
+    same(&rt, "the deepest levels", wrong, None);
 }
 
 #[test]

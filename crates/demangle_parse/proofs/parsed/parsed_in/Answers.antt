@@ -1,42 +1,53 @@
-use Rattle.std.proofs.Common.{◌∙◌, ap, sym, ◌-◌, subst, ◌≤◌, length}
+use Rattle.std.proofs.Common.{ap, ◌∙◌, subst, ◌≤◌, [], drop}
 use Rattle.demangle_text.specs.Spot.{spot}
 use Rattle.demangle_table.specs.TableOf.{table_of}
-use Rattle.demangle_cells.specs.Model.{model}
-use Rattle.demangle_cells.specs.View.{view}
-use Rattle.demangle_parse.proofs.Made.{old_taken}
-use Rattle.demangle_parse.proofs.Places.{front_read, ends_behind, ends_inside, rest_at, found_there}
+use Rattle.demangle_grammar.specs.Code.{here, cread}
+use Rattle.demangle_leaf_rows.specs.Answers.{AnswersOrOutOfMemory}
+use Rattle.demangle_leaf_rows.specs.Context.{levels_left}
+use Rattle.demangle_parse.proofs.Tries.{needs_here, same_place, answers_all, deepens_all}
 use Rattle.demangle_parse.proofs.parsed.parsed_in.Goals as goal
 
-pub overflow_sub-part : goal.overflow_sub-part
-overflow_sub-part g c =
-    let front = front_read c.args.depth.levels g.X.ReadCells.row c.args.depth.conversion (spot c.args.input) c.args.bytes.now
-    (table_of c.args.subs.now) c.in-Some.text c.index.result c.in_ok-part.part (view c.in_ok-arena.arena)
-    (view c.read_row-answer.new.arena) c.in-Some.ensures c.index.ensures.value c.requires.at_index
-    c.in_ok-arena.ensures c.in_ok-part.ensures.grown c.in_ok-part.ensures.reads c.each_arena_has_a_model.ensures in
-    subst (λ n. n ≤ c.in_ok-part.part.end) (sym c.index-2.ensures.value) (ends_behind front)
+pub raise_by-requires : goal.raise_by-requires
+raise_by-requires g c =
+    subst (λ l. c.in_ok-levels.levels ≤ l) c.depth-left.ensures.levels
+    (c.in_ok-levels.ensures.needs (table_of c.args.subs.now) c.in_ok-arena.ensures).within
 
-pub range_from-rest-requires : goal.range_from-rest-requires
-range_from-rest-requires g c =
-    let front = front_read c.args.depth.levels g.X.ReadCells.row c.args.depth.conversion (spot c.args.input) c.args.bytes.now
-    (table_of c.args.subs.now) c.in-Some.text c.index.result c.in_ok-part.part (view c.in_ok-arena.arena)
-    (view c.read_row-answer.new.arena) c.in-Some.ensures c.index.ensures.value c.requires.at_index
-    c.in_ok-arena.ensures c.in_ok-part.ensures.grown c.in_ok-part.ensures.reads c.each_arena_has_a_model.ensures in
-    subst (λ n. c.in_ok-part.part.end - n ≤ length (spot c.args.input).left) (sym c.index-2.ensures.value)
-    (ends_inside front)
+pub read_out-requires-clause-table : goal.read_out-requires-clause-table
+read_out-requires-clause-table g c = c.in_ok-levels.ensures.kept (table_of c.args.subs.now) c.in_ok-arena.ensures
 
-pub returns-in-Ok-clause-reads : goal.returns-in-Ok-clause-reads
-returns-in-Ok-clause-reads g c =
-    let F = model (view c.read_row-answer.new.arena) in
-    let h = c.each_arena_has_a_model.ensures in
-    let front = front_read c.args.depth.levels g.X.ReadCells.row c.args.depth.conversion (spot c.args.input) c.args.bytes.now
-    (table_of c.args.subs.now) c.in-Some.text c.index.result c.in_ok-part.part (view c.in_ok-arena.arena)
-    (view c.read_row-answer.new.arena) c.in-Some.ensures c.index.ensures.value c.requires.at_index
-    c.in_ok-arena.ensures c.in_ok-part.ensures.grown c.in_ok-part.ensures.reads c.each_arena_has_a_model.ensures in
-    let old = old_taken F (view c.in_ok-arena.arena) (view c.read_row-answer.new.arena) c.entries-count.result.now
-    (table_of c.args.subs.now) c.in_ok-part.ensures.grown c.entries-count.ensures
-    (c.in_ok-arena.ensures F (c.in_ok-part.ensures.grown.holds F h)) in
-    let made = c.in-Ok.ensures.made F h old in
-    let rest = rest_at (spot c.args.input) (spot c.range_from-rest.result) c.args.bytes.now c.in_ok-part.part.end
-    (c.in_ok-part.part.end - c.index-2.result) c.requires.at_index (ends_behind front)
-    (ap (λ n. c.in_ok-part.part.end - n) c.index-2.ensures.value) c.range_from-rest.ensures in
-    front.found ∙ found_there _ _ _ _ _ _ made.0 rest made.1
+pub returns-clause-reads : goal.returns-clause-reads
+returns-clause-reads g c =
+    let row = g.X.ReadCells.row in
+    let whole = table_of c.args.subs.now in
+    let left = c.depth-left in
+    let place = same_place c.in-Some.text (spot c.args.input) c.index.result c.index.ensures.value
+    (ap (drop (spot c.args.input).index) c.in-Some.ensures ∙ c.requires.at_index) in
+    let needs = needs_here row c.levels_known.result left.result.levels (levels_left c.args.ctx.now)
+    c.in_ok-levels.levels left.result.conversion c.args.ctx.now.conversion c.in-Some.text c.index.result
+    (spot c.args.input) whole left.ensures.levels left.ensures.conversion place
+    (c.in_ok-levels.ensures.needs whole c.in_ok-arena.ensures) in
+    let reads = subst (λ on.
+    AnswersOrOutOfMemory g.X.ReadCells.tree c.read_out.result (table_of c.read_out.new.subs)
+    (cread c.in_ok-levels.levels row on (here (spot c.args.input) whole) []))
+    left.ensures.conversion c.read_out.ensures.reads in
+    answers_all g.X.ReadCells.tree row c.args.ctx.now c.raise_by.new.self c.args.input whole
+    (table_of c.read_out.new.subs) c.read_out.result c.in_ok-levels.levels c.levels_known.result needs reads
+
+pub returns-clause-deepest : goal.returns-clause-deepest
+returns-clause-deepest g c =
+    let row = g.X.ReadCells.row in
+    let whole = table_of c.args.subs.now in
+    let left = c.depth-left in
+    let place = same_place c.in-Some.text (spot c.args.input) c.index.result c.index.ensures.value
+    (ap (drop (spot c.args.input).index) c.in-Some.ensures ∙ c.requires.at_index) in
+    let needs = needs_here row c.levels_known.result left.result.levels (levels_left c.args.ctx.now)
+    c.in_ok-levels.levels left.result.conversion c.args.ctx.now.conversion c.in-Some.text c.index.result
+    (spot c.args.input) whole left.ensures.levels left.ensures.conversion place
+    (c.in_ok-levels.ensures.needs whole c.in_ok-arena.ensures) in
+    let reads = subst (λ on.
+    AnswersOrOutOfMemory g.X.ReadCells.tree c.read_out.result (table_of c.read_out.new.subs)
+    (cread c.in_ok-levels.levels row on (here (spot c.args.input) whole) []))
+    left.ensures.conversion c.read_out.ensures.reads in
+    deepens_all g.X.ReadCells.tree row c.args.ctx.now c.raise_by.new.self c.args.input whole
+    (table_of c.read_out.new.subs) c.read_out.result c.in_ok-levels.levels c.levels_known.result
+    c.levels_known.ensures.levels needs c.raise_by.ensures reads

@@ -1,0 +1,19 @@
+use Rattle.std.proofs.Common.{rules, of_calls}
+use Rattle.demangle_text.specs.Spot.{spot}
+use Rattle.demangle_leaf_nodes.specs.TreeLeaves.{tree_of_clone_suffix}
+use Rattle.demangle_grammar.specs.Rule.{Row}
+use Rattle.demangle_leaf_rows.proofs.Levels.{answers_same_or, deepens_or, too_few}
+use Rattle.demangle_leaf_rows.proofs.readers.read_clone_suffix.Goals as goal
+
+pub returns-clause-reads : goal.returns-clause-reads
+returns-clause-reads c table =
+    let d = c.deepening.ensures in
+    answers_same_or tree_of_clone_suffix Row.clone_suffix c.args.ctx.now.conversion (spot c.args.input) table
+    c.deepening.result d.levels _ d.within d.enough (search (rules, of_calls))
+
+pub returns-clause-deepest : goal.returns-clause-deepest
+returns-clause-deepest c table =
+    let d = c.deepening.ensures in
+    deepens_or tree_of_clone_suffix Row.clone_suffix c.args.ctx.now c.deepening.new.ctx c.args.input table
+    c.deepening.result d.levels d.deepest (search (rules, of_calls))
+    (λ less e. let n = d.needed less e in too_few (search (rules, of_calls, n)))
