@@ -11,7 +11,7 @@ use demangle_tree::{MangledName, SubstitutionTable};
 use std::alloc::Global;
 
 /// The tree of the name at the front, its components, and what is left behind it. Each refusal is the reading's, or
-/// `OutOfMemory`.
+/// `OutOfMemory`. The deepest level is raised to the last one first, so that no row is tried to find it.
 #[inline(always)]
 pub(crate) fn read_front<'a>(
     alloc: Global,
@@ -22,6 +22,8 @@ pub(crate) fn read_front<'a>(
 {
     let mut subs = SubstitutionTable::new(alloc);
     let mut ctx = ParseContext::new(*options);
+    let levels = ctx.depth().levels;
+    ctx.raise_by(levels);
     match MangledName::parse(alloc, &mut ctx, &mut subs, IndexStr::new(input)) {
         Ok((name, rest)) => Ok((name, subs, rest)),
         Err(error) => {
